@@ -1,0 +1,3 @@
+pub mod Transitions
+pub mod Runs
+pub mod Justice
