@@ -12,7 +12,7 @@ use lib.ListN.{length, getD, take, drop}
 use Rattle.std.proofs.shelf.Lists.{getD-take, getD-drop, length-take, length-drop}
 use Rattle.std.proofs.shelf.Tests.{and-parts, both-ways, cases-order, cases-lt, or-left}
 use Rattle.lock_text.specs.Characters.{is-letter, is-digit, is-name-byte, is-blank}
-use Rattle.lock_text.specs.Spelling.{Lexeme, name, number, word, mark, word-spelling, mark-spelling, spelling, Each, NameShape, NumberShape, MarkShape, Shape, Reserved, WellFormed}
+use Rattle.lock_text.specs.Spelling.{Lexeme, name, number, word, mark, word-spelling, mark-spelling, spelling, Each, NameShape, NumberShape, MarkShape, Shape, Reserved, WellFormed, max-name, max-digits}
 use Rattle.lock_text.specs.Tokens.{part, TokenAt}
 use Rattle.lock_text.specs.Lexing.{RunTo}
 use Rattle.lock_text.specs.declared.token.Word.{Word}
@@ -228,16 +228,16 @@ ends-none t a e k none l f token =
     let same : f ≡ e = same-end t a e (k .within) (k .looks) (k .longest) l f token in
     none l (token .spelt ∙ ap (part t a) same) (token .well-formed)
 
--- a name of more than 16 bytes, a number of more than 5 digits
+-- a name or a number past its limit
 
-pub long-name : (t : List ℕ) (a e : ℕ) → Ends t a e → is-letter (getD t a 0) ≡ true → 16 < e - a → (l : Lexeme) → spelling l ≡ part t a e → ¬ WellFormed l
+pub long-name : (t : List ℕ) (a e : ℕ) → Ends t a e → is-letter (getD t a 0) ≡ true → max-name < e - a → (l : Lexeme) → spelling l ≡ part t a e → ¬ WellFormed l
 long-name t a e k first h (name w) s (n, few, fresh) = let len = ap length s ∙ part-length t a e (k .within) in omega arith
 long-name t a e k first h (number w) s (n, few) = let len = ap length s ∙ part-length t a e (k .within) in omega arith
 long-name t a e k first h (word v) s u = let len = ap length s ∙ part-length t a e (k .within) in omega (arith, word-short v)
 long-name t a e k first h (mark m) s u =
     both-ways (is-letter (getD t a 0)) (sym (ap is-letter (ap (λ w. getD w 0 0) s ∙ part-first t a e (k .some-bytes))) ∙ mark-no-letter m) first
 
-pub long-number : (t : List ℕ) (a e : ℕ) → Ends t a e → is-digit (getD t a 0) ≡ true → 5 < e - a → (l : Lexeme) → spelling l ≡ part t a e → ¬ WellFormed l
+pub long-number : (t : List ℕ) (a e : ℕ) → Ends t a e → is-digit (getD t a 0) ≡ true → max-digits < e - a → (l : Lexeme) → spelling l ≡ part t a e → ¬ WellFormed l
 long-number t a e k first h (name w) s (n, few, fresh) =
     letter-no-digit (getD t a 0) (sym (ap is-letter (ap (λ w. getD w 0 0) s ∙ part-first t a e (k .some-bytes))) ∙ n .0) first
 long-number t a e k first h (number w) s (n, few) = let len = ap length s ∙ part-length t a e (k .within) in omega arith
@@ -248,14 +248,14 @@ long-number t a e k first h (mark m) s u =
 
 -- names, reserved words and numbers within their limits
 
-pub number-token : (t : List ℕ) (a e : ℕ) → a < length t → is-digit (getD t a 0) ≡ true → RunTo is-digit t a e → e - a ≤ 5 → TokenAt t a (number (part t a e)) e
+pub number-token : (t : List ℕ) (a e : ℕ) → a < length t → is-digit (getD t a 0) ≡ true → RunTo is-digit t a e → e - a ≤ max-digits → TokenAt t a (number (part t a e)) e
 number-token t a e h d run few =
     let k = number-ends t a e h d run in
     let first : is-digit (getD (part t a e) 0 0) ≡ true = ap is-digit (part-first t a e (k .some-bytes)) ∙ d in
     let len = part-length t a e (k .within) in
     ends-token t a e (number (part t a e)) k refl (digit-number (part t a e) first (k .looks), omega arith)
 
-pub name-token : (t : List ℕ) (a e : ℕ) → Ends t a e → is-letter (getD t a 0) ≡ true → e - a ≤ 16 → ¬ Reserved (part t a e) → TokenAt t a (name (part t a e)) e
+pub name-token : (t : List ℕ) (a e : ℕ) → Ends t a e → is-letter (getD t a 0) ≡ true → e - a ≤ max-name → ¬ Reserved (part t a e) → TokenAt t a (name (part t a e)) e
 name-token t a e k l few fresh =
     let first : is-letter (getD (part t a e) 0 0) ≡ true = ap is-letter (part-first t a e (k .some-bytes)) ∙ l in
     let len = part-length t a e (k .within) in

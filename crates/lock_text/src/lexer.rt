@@ -65,13 +65,11 @@ pub(crate) fn mark_of(byte: u8, followed: bool) -> Option<Mark>
         ')' => Some(Mark::Close),
         '+' => Some(Mark::Plus),
         '-' => Some(Mark::Minus),
-        '=' => Some(if followed { Mark::Equal } else { Mark::Assign }),
-        '!' => if followed { Some(Mark::NotEqual) } else { None },
-        '<' => Some(if followed {
-            Mark::LessEqual
-        } else {
-            Mark::Less
-        }),
+        '=' if followed => Some(Mark::Equal),
+        '=' => Some(Mark::Assign),
+        '!' if followed => Some(Mark::NotEqual),
+        '<' if followed => Some(Mark::LessEqual),
+        '<' => Some(Mark::Less),
         ':' => Some(Mark::Colon),
         ';' => Some(Mark::Semicolon),
         ',' => Some(Mark::Comma),

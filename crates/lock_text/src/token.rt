@@ -51,7 +51,7 @@ impl Mark {
 }
 
 /// A token. Names and numbers borrow their spelling from the text.
-#[derive(Clone, Copy)]
+#[derive(Clone, Copy, PartialEq, Eq, Debug)]
 pub enum Token<'a> {
     Name(&'a [u8]),
     Number(&'a [u8]),
@@ -60,7 +60,7 @@ pub enum Token<'a> {
 }
 
 /// A token and the place where it stands: from `start` up to `end`.
-#[derive(Clone, Copy)]
+#[derive(Clone, Copy, PartialEq, Eq, Debug)]
 pub struct Placed<'a> {
     pub token: Token<'a>,
     pub start: usize,
