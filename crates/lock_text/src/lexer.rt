@@ -195,10 +195,8 @@ pub fn count_tokens(text: &[u8]) -> Result<usize, TextRefusal>
 
 /// A text has one list of tokens or one first fault of spelling, and never both: what the lexer answers is
 /// the only right answer.
-pub fn tokens_are_one() -> bool
+pub fn tokens_are_one()
     ensures tokens { λ _. ⌜ Tokens-are-one ⌝ }
     ensures fault { λ _. ⌜ First-fault-is-one ⌝ }
     ensures apart { λ _. ⌜ No-fault-among-tokens ⌝ }
-{
-    true
-}
+{}
