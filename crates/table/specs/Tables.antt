@@ -34,18 +34,18 @@ table-system h successors classed regions = record {
   class = λ k. cond (ltb k (h .commands)) (if-below (h .classes) (getD classed k None)) None;
 }
 
--- Every number among the first m entries is below n.
-abbrev pub FirstBelow : List (Option ℕ) → ℕ → ℕ → Type 0
-FirstBelow xs m n = (i t : ℕ) → i < m → getD xs i None ≡ Some t → t < n
+-- Every entry among the first m has a number below n, or none.
+abbrev pub FirstBelow : {A : Type 0} → (A → ℕ) → List (Option A) → ℕ → ℕ → Type 0
+FirstBelow number xs m n = (i : ℕ) (a : _) → i < m → getD xs i None ≡ Some a → number a < n
 
--- Every number in the list is below n.
-abbrev pub EachBelow : List (Option ℕ) → ℕ → Type 0
-EachBelow xs n = FirstBelow xs (length xs) n
+-- Every entry has a number below n, or none.
+abbrev pub EachBelow : {A : Type 0} → (A → ℕ) → List (Option A) → ℕ → Type 0
+EachBelow number xs n = FirstBelow number xs (length xs) n
 
 -- One entry for each question, and no number out of range.
 pub record WellFormed (h : Shape) (successors classed : List (Option ℕ)) (regions : List Region) : Type 0 where
   pub successors-long : length successors ≡ h .states * h .commands
   pub classed-long : length classed ≡ h .commands
   pub regions-long : length regions ≡ h .states * h .processes
-  pub states-below : EachBelow successors (h .states)
-  pub classes-below : EachBelow classed (h .classes)
+  pub states-below : EachBelow (λ t. t) successors (h .states)
+  pub classes-below : EachBelow (λ j. j) classed (h .classes)

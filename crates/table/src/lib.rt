@@ -3,7 +3,8 @@ ghost use mathlib.Core.Path.{_≡_};
 ghost use Prim.Native.Nat.{ℕ, _+_, _*_, _≤_, _<_};
 ghost use denote.Ref.{now as at};
 ghost use Rattle.std.specs.declared.option.Option.the-variants.{Some, None};
-ghost use lib.Dec.{T, eqb};
+ghost use lib.Dec.{ltb, eqb};
+ghost use Rattle.std.specs.Orderings.{Decides};
 ghost use lib.ListN.{length, getD};
 ghost use mathlib.Core.Bool.{_&&_};
 ghost use Rattle.table.specs.Tables.{EachBelow, WellFormed, table-system};
@@ -17,14 +18,37 @@ pub use shape::Shape;
 use system::Region;
 use system::System;
 
+// What an entry holds: a number that can be held against a bound.
+trait Number: Copy {
+    ghost number: { Self → ℕ };
+
+    fn is_below(self, bound: Self) -> bool
+        ensures { λ r. ⌜ r ≡ ltb (number self) (number bound) ⌝ };
+}
+
+impl Number for u8 as ByteNumber {
+    ghost number = { λ n. n };
+
+    fn is_below(self, bound: u8) -> bool {
+        self < bound
+    }
+}
+
+impl Number for u32 as WordNumber {
+    ghost number = { λ n. n };
+
+    fn is_below(self, bound: u32) -> bool {
+        self < bound
+    }
+}
+
 // Whether every number in the list is below `bound`.
-fn states_below(list: &[Option<u32>], bound: u32) -> bool
-    ensures only { λ r. ⌜ (T r → EachBelow (now (list .entry)) bound) ⌝ }
-    ensures all { λ r. ⌜ (EachBelow (now (list .entry)) bound → T r) ⌝ }
+fn each_below<N: Number>(list: &[Option<N>], bound: N) -> bool
+    ensures { λ r. ⌜ Decides r (EachBelow number (now (list .entry)) (number bound)) ⌝ }
 {
     for e in list {
-        if let Some(t) = *e {
-            if t >= bound {
+        if let Some(n) = *e {
+            if !n.is_below(bound) {
                 return false;
             }
         }
@@ -49,34 +73,18 @@ fn entry<T: Copy>(list: &[T], i: usize, missing: T) -> T
     if i < list.len() { list[i] } else { missing }
 }
 
-// Whether every number in the list is below `bound`.
-fn classes_below(list: &[Option<u8>], bound: u8) -> bool
-    ensures only { λ r. ⌜ (T r → EachBelow (now (list .entry)) bound) ⌝ }
-    ensures all { λ r. ⌜ (EachBelow (now (list .entry)) bound → T r) ⌝ }
-{
-    for e in list {
-        if let Some(t) = *e {
-            if t >= bound {
-                return false;
-            }
-        }
-    }
-    true
-}
-
 impl<'a> Table<'a> {
     /// Whether the arrays are well formed: one entry for each question, and no number out of range.
     pub fn is_well_formed(&self) -> bool
-        ensures only { λ r. ⌜ (T r → WellFormed (now (self .entry) .shape) (at (now (self .entry) .successors)) (at (now (self .entry) .classed)) (at (now (self .entry) .regions))) ⌝ }
-        ensures all { λ r. ⌜ (WellFormed (now (self .entry) .shape) (at (now (self .entry) .successors)) (at (now (self .entry) .classed)) (at (now (self .entry) .regions)) → T r) ⌝ }
+        ensures { λ r. ⌜ Decides r (WellFormed (now (self .entry) .shape) (at (now (self .entry) .successors)) (at (now (self .entry) .classed)) (at (now (self .entry) .regions))) ⌝ }
     {
         if !right_lengths(self) {
             return false;
         }
-        if !states_below(self.successors, self.shape.states) {
+        if !each_below(self.successors, self.shape.states) {
             return false;
         }
-        classes_below(self.classed, self.shape.classes)
+        each_below(self.classed, self.shape.classes)
     }
 }
 
