@@ -50,45 +50,23 @@ pub unless-none : {A : Type 0} (b : Bool) → unless {A = A} b None ≡ None
 unless-none true = refl
 unless-none false = refl
 
--- Systems that differ in their successors alone are the same where those are.
-same-next : (S : FairSystem) (f g : ℕ → ℕ → Option ℕ) → ((s k : ℕ) → f s k ≡ g s k)
-    → _≡_ {A = FairSystem}
-    (record {
-      steps = record {
-        processes = S .steps .processes;
-        commands = S .steps .commands;
-        states = S .steps .states;
-        start = S .steps .start;
-        next = f;
-        region = S .steps .region;
-      };
-      classes = S .classes;
-      class = S .class;
-    })
-    (record {
-      steps = record {
-        processes = S .steps .processes;
-        commands = S .steps .commands;
-        states = S .steps .states;
-        start = S .steps .start;
-        next = g;
-        region = S .steps .region;
-      };
-      classes = S .classes;
-      class = S .class;
-    })
-same-next S f g h = λ i. record {
+-- The system with other successors.
+abbrev with-next : FairSystem → (ℕ → ℕ → Option ℕ) → FairSystem
+with-next S next = record {
   steps = record {
     processes = S .steps .processes;
     commands = S .steps .commands;
     states = S .steps .states;
     start = S .steps .start;
-    next = λ s k. h s k i;
+    next = next;
     region = S .steps .region;
   };
   classes = S .classes;
   class = S .class;
 }
+
+same-next : (S : FairSystem) (f g : ℕ → ℕ → Option ℕ) → ((s k : ℕ) → f s k ≡ g s k) → with-next S f ≡ with-next S g
+same-next S f g h = ap (with-next S) (fun-ext (λ s. fun-ext (h s)))
 
 pub piles-are-unions : Piles-are-unions
 piles-are-unions a b S =

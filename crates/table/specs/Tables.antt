@@ -46,10 +46,13 @@ FirstBelow number xs m n = (i : ℕ) (a : _) → i < m → getD xs i None ≡ So
 abbrev pub EachBelow : {A : Type 0} → (A → ℕ) → List (Option A) → ℕ → Type 0
 EachBelow number xs n = FirstBelow number xs (length xs) n
 
+-- The arrays have one entry for each question.
+abbrev pub RightLengths : Shape → List (Option ℕ) → List (Option ℕ) → List Region → Type 0
+RightLengths h successors classed regions =
+    (length successors ≡ h .states * h .commands) × (length classed ≡ h .commands) × (length regions ≡ h .states * h .processes)
+
 -- One entry for each question, and no number out of range.
 pub record WellFormed (h : Shape) (successors classed : List (Option ℕ)) (regions : List Region) : Type 0 where
-  pub successors-long : length successors ≡ h .states * h .commands
-  pub classed-long : length classed ≡ h .commands
-  pub regions-long : length regions ≡ h .states * h .processes
+  pub right-lengths : RightLengths h successors classed regions
   pub states-below : EachBelow (λ t. t) successors (h .states)
   pub classes-below : EachBelow (λ j. j) classed (h .classes)

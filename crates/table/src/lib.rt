@@ -3,11 +3,9 @@ ghost use mathlib.Core.Path.{_≡_};
 ghost use Prim.Native.Nat.{ℕ, _+_, _*_, _≤_, _<_};
 ghost use denote.Ref.{now as at};
 ghost use Rattle.std.specs.declared.option.Option.the-variants.{Some, None};
-ghost use lib.Dec.{ltb, eqb};
+ghost use lib.Dec.{ltb};
 ghost use Rattle.std.specs.Orderings.{Decides};
-ghost use lib.ListN.{length};
-ghost use mathlib.Core.Bool.{_&&_};
-ghost use Rattle.table.specs.Tables.{cell, if-below, EachBelow, WellFormed, table-system};
+ghost use Rattle.table.specs.Tables.{cell, if-below, EachBelow, RightLengths, WellFormed, table-system};
 ghost use Rattle.table.specs.Laws.{table-lawful};
 
 mod arrays;
@@ -58,7 +56,7 @@ fn each_below<N: Number>(list: &[Option<N>], bound: N) -> bool
 
 // Whether the arrays have one entry for each question.
 fn right_lengths(table: &Table) -> bool
-    ensures { λ r. ⌜ r ≡ (eqb (length (at (now (table .entry) .successors))) (now (table .entry) .shape .states * now (table .entry) .shape .commands) && (eqb (length (at (now (table .entry) .classed))) (now (table .entry) .shape .commands) && eqb (length (at (now (table .entry) .regions))) (now (table .entry) .shape .states * now (table .entry) .shape .processes))) ⌝ }
+    ensures { λ r. ⌜ Decides r (RightLengths (now (table .entry) .shape) (at (now (table .entry) .successors)) (at (now (table .entry) .classed)) (at (now (table .entry) .regions))) ⌝ }
 {
     let states = table.shape.states as usize;
     table.successors.len() == states * table.shape.commands as usize
