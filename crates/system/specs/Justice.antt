@@ -24,6 +24,7 @@ pub record Lawful (S : FairSystem) : Type 0 where
 abbrev pub ClassEnabled : FairSystem → ℕ → ℕ → Type 0
 ClassEnabled S s j = (k : ℕ) × (S .class k ≡ Some j) × Enabled (S .steps) s k
 
+-- The class j is disabled at s: no command of it is enabled.
 abbrev pub ClassDisabled : FairSystem → ℕ → ℕ → Type 0
 ClassDisabled S s j = ¬ ClassEnabled S s j
 

@@ -25,7 +25,8 @@ pub record Transitions : Type 0 where
   pub next : ℕ → ℕ → Option ℕ
   pub region : ℕ → ℕ → Region
 
--- The bounds. Start and successors are states; out of range there is no successor, and the region is idle.
+-- One to eight processes, at most 64 commands, one to 65,536 states. Start and successors are states; out of
+-- range there is no successor, and the region is idle.
 pub record LawfulTransitions (T : Transitions) : Type 0 where
   pub some-process : 1 ≤ T .processes
   pub few-processes : T .processes ≤ 8
@@ -47,6 +48,7 @@ Waits T p s = T .region s p ≡ Try
 abbrev pub Holds : Transitions → ℕ → ℕ → Type 0
 Holds T p s = T .region s p ≡ Crit
 
+-- One for a holder, else zero.
 abbrev pub holder-bit : Region → ℕ
 holder-bit Idle = 0
 holder-bit Try = 0
@@ -58,6 +60,7 @@ abbrev pub holders-below : Transitions → ℕ → ℕ → ℕ
 holders-below T s zero = 0
 holders-below T s (suc n) = holder-bit (T .region s n) * 2 ^ n + holders-below T s n
 
+-- The mask of the holders among all processes.
 abbrev pub holder-mask : Transitions → ℕ → ℕ
 holder-mask T s = holders-below T s (T .processes)
 
