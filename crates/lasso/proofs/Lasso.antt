@@ -24,7 +24,7 @@ module _ (T : Transitions) where
   leads-one s t t′ rest l l′ = sym l ∙ l′
 
   -- a walk leads to one state
-  walk-one : (w : List Step) (s t t′ : ℕ) → Walk T s w t → Walk T s w t′ → t ≡ t′
+  pub walk-one : (w : List Step) (s t t′ : ℕ) → Walk T s w t → Walk T s w t′ → t ≡ t′
   walk-one [] s t t′ h h′ = sym h ∙ h′
   walk-one (a ∷ w) s t t′ (u, l, h) (u′, l′, h′) = walk-one w u t t′ h (rw (leads-one s u′ u a l′ l) at h′)
 
