@@ -6,3 +6,5 @@ pub mod Paths
 pub mod Judged
 pub mod Encoding
 pub mod Accepted
+pub mod Walks
+pub mod Bits
