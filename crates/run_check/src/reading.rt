@@ -6,8 +6,8 @@ ghost use Rattle.std.specs.declared.option.Option.the-variants.{Some, None};
 ghost use Rattle.std.specs.declared.result.Result.the-variants.{Ok, Err};
 ghost use Rattle.run_rules.specs.Reading.{is-step, no-step, count-at, kind-at, is-process, process-at, is-loop-count, loop-count-at, steps-at, fields, read-run};
 use bytes::number_at;
+use run_refusal::RunRefusal;
 use run_rules::Kind;
-use run_rules::RunRefusal;
 use system::System;
 
 /// The byte of the rest step.

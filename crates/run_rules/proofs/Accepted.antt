@@ -10,7 +10,7 @@ use Rattle.bytes.specs.Numbers.{Bytes}
 use Rattle.system.specs.Runs.{Run, LeavesTrying}
 use Rattle.system.specs.Justice.{FairSystem, Lawful, Just}
 use Rattle.lasso.proofs.Lasso.{clash-run-reaches-clash, lockout-leaves-trying}
-use Rattle.run_rules.specs.declared.refusal.RunRefusal.{RunRefusal}
+use Rattle.run_refusal.specs.declared.RunRefusal.{RunRefusal}
 use Rattle.run_rules.specs.Layout.{BadBytes, clash-bytes, lockout-bytes}
 use Rattle.run_rules.specs.Judging.{run-answer}
 use Rattle.run_rules.specs.Causes.{RightRefusal}

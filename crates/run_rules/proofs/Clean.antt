@@ -8,9 +8,9 @@ use native.Mathlib.Omega.{arith}
 use lib.ListN.{length, getD, take, drop}
 use Rattle.std.proofs.shelf.Tests.{cases-lt}
 use Rattle.system.specs.Justice.{FairSystem, Lawful}
-use Rattle.run_rules.specs.declared.refusal.RunRefusal.{RunRefusal}
-use Rattle.run_rules.specs.declared.refusal.RunRefusal.the-variants.{WrongLength, WrongKind, WrongProcess, WrongStep, WrongLoopCount, StepDisabled, NoClash, LoopOpen, NotWaiting, ClassNeglected}
-use Rattle.run_rules.specs.Refusals.{number, placed, place}
+use Rattle.run_refusal.specs.declared.RunRefusal.{RunRefusal}
+use Rattle.run_refusal.specs.declared.RunRefusal.the-variants.{WrongLength, WrongKind, WrongProcess, WrongStep, WrongLoopCount, StepDisabled, NoClash, LoopOpen, NotWaiting, ClassNeglected}
+use Rattle.run_refusal.specs.Refusals.{number, placed, place}
 use Rattle.run_rules.specs.Causes.{Cause, Field, StepAt}
 use Rattle.run_rules.specs.Layout.{stem-length, loop-length, end}
 use Rattle.run_rules.proofs.Order.{AheadBy}

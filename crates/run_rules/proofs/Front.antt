@@ -17,12 +17,12 @@ use Rattle.std.specs.declared.result.Result.{Result}
 use Rattle.std.specs.declared.result.Result.the-variants.{Ok, Err}
 use Rattle.system.specs.Justice.{FairSystem, Lawful}
 use Rattle.bytes.specs.Numbers.{number-at}
-use Rattle.run_rules.specs.declared.refusal.Place.{Place}
-use Rattle.run_rules.specs.declared.refusal.Kind.{Kind}
-use Rattle.run_rules.specs.declared.refusal.Kind.the-variants.{Clash, Lockout}
-use Rattle.run_rules.specs.declared.refusal.RunRefusal.{RunRefusal}
-use Rattle.run_rules.specs.declared.refusal.RunRefusal.the-variants.{WrongLength, WrongKind, WrongProcess, WrongStep, WrongLoopCount, StepDisabled, NoClash, LoopOpen, NotWaiting, ClassNeglected}
-use Rattle.run_rules.specs.Refusals.{number, placed, place}
+use Rattle.run_refusal.specs.declared.Place.{Place}
+use Rattle.run_rules.specs.declared.Kind.{Kind}
+use Rattle.run_rules.specs.declared.Kind.the-variants.{Clash, Lockout}
+use Rattle.run_refusal.specs.declared.RunRefusal.{RunRefusal}
+use Rattle.run_refusal.specs.declared.RunRefusal.the-variants.{WrongLength, WrongKind, WrongProcess, WrongStep, WrongLoopCount, StepDisabled, NoClash, LoopOpen, NotWaiting, ClassNeglected}
+use Rattle.run_refusal.specs.Refusals.{number, placed, place}
 use Rattle.run_rules.specs.Reading.{and-then, Fields, fields, is-step, no-step, is-process, is-loop-count, kind-at, process-at, count-at, loop-count-at, steps-or, steps-at, ended, read-run}
 use Rattle.run_rules.specs.Causes.{Cause, RightRefusal, Field, StepAt}
 use Rattle.run_rules.specs.Layout.{stem-length, loop-length, end}

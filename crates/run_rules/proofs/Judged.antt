@@ -22,12 +22,12 @@ use Rattle.system.specs.Tests.{is-clash}
 use Rattle.system.proofs.Decided.{is-clash-decides}
 use Rattle.lasso.specs.BadRuns.{LoopState, ClashRun, LockoutRun}
 use Rattle.lasso.proofs.Lasso.{walk-one}
-use Rattle.run_rules.specs.declared.refusal.Place.{Place}
-use Rattle.run_rules.specs.declared.refusal.Kind.{Kind}
-use Rattle.run_rules.specs.declared.refusal.Kind.the-variants.{Clash, Lockout}
-use Rattle.run_rules.specs.declared.refusal.RunRefusal.{RunRefusal}
-use Rattle.run_rules.specs.declared.refusal.RunRefusal.the-variants.{WrongLength, WrongKind, WrongProcess, WrongStep, WrongLoopCount, StepDisabled, NoClash, LoopOpen, NotWaiting, ClassNeglected}
-use Rattle.run_rules.specs.Refusals.{number, placed, place}
+use Rattle.run_refusal.specs.declared.Place.{Place}
+use Rattle.run_rules.specs.declared.Kind.{Kind}
+use Rattle.run_rules.specs.declared.Kind.the-variants.{Clash, Lockout}
+use Rattle.run_refusal.specs.declared.RunRefusal.{RunRefusal}
+use Rattle.run_refusal.specs.declared.RunRefusal.the-variants.{WrongLength, WrongKind, WrongProcess, WrongStep, WrongLoopCount, StepDisabled, NoClash, LoopOpen, NotWaiting, ClassNeglected}
+use Rattle.run_refusal.specs.Refusals.{number, placed, place}
 use Rattle.run_rules.specs.Layout.{stem-length, loop-length, end, step-of, stem, cycle}
 use Rattle.run_rules.specs.Reading.{and-then, Fields, read-run}
 use Rattle.run_rules.specs.Judging.{or-else, after, walked, least-idle, neglected, least, judged-loop, judged-clash, judged-lockout, judged-by, judged, run-answer}

@@ -3,10 +3,10 @@ use mathlib.Core.Path.{_≡_, refl}
 use mathlib.Core.Logic.{_⊎_, inl, inr}
 use Prim.Native.Nat.{ℕ, _+_, _≤_, _<_}
 use native.Mathlib.Omega.{arith}
-use Rattle.run_rules.specs.declared.refusal.Place.{Place}
-use Rattle.run_rules.specs.declared.refusal.RunRefusal.{RunRefusal}
-use Rattle.run_rules.specs.declared.refusal.RunRefusal.the-variants.{WrongLength, WrongKind, WrongProcess, WrongStep, WrongLoopCount, StepDisabled, NoClash, LoopOpen, NotWaiting, ClassNeglected}
-use Rattle.run_rules.specs.Refusals.{number, placed, order-of-causes, before, Earlier}
+use Rattle.run_refusal.specs.declared.Place.{Place}
+use Rattle.run_refusal.specs.declared.RunRefusal.{RunRefusal}
+use Rattle.run_refusal.specs.declared.RunRefusal.the-variants.{WrongLength, WrongKind, WrongProcess, WrongStep, WrongLoopCount, StepDisabled, NoClash, LoopOpen, NotWaiting, ClassNeglected}
+use Rattle.run_refusal.specs.Refusals.{number, placed, order-of-causes, before, Earlier}
 use Rattle.run_rules.specs.Causes.{Ahead, PlaceBefore, Reading}
 
 in-order : (d : RunRefusal) → before order-of-causes (number d) + 31 ≡ number d

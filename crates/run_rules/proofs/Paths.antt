@@ -24,8 +24,8 @@ use Rattle.system.specs.Tests.{is-class, class-enabled}
 use Rattle.system.proofs.Decided.{is-class-decides, class-enabled-decides}
 use Rattle.lasso.specs.BadRuns.{LoopState, TreatedJustly}
 use Rattle.lasso.proofs.Lasso.{leads-one}
-use Rattle.run_rules.specs.declared.refusal.RunRefusal.{RunRefusal}
-use Rattle.run_rules.specs.declared.refusal.RunRefusal.the-variants.{StepDisabled}
+use Rattle.run_refusal.specs.declared.RunRefusal.{RunRefusal}
+use Rattle.run_refusal.specs.declared.RunRefusal.the-variants.{StepDisabled}
 use Rattle.run_rules.specs.Layout.{step-of}
 use Rattle.run_rules.specs.Judging.{or-else, after, walked, is-try, lower, least-idle, owed, neglected, least}
 

@@ -11,7 +11,7 @@ use Rattle.std.specs.declared.option.Option.the-variants.{Some, None}
 use Rattle.std.specs.declared.result.Result.the-variants.{Ok, Err}
 use Rattle.system.specs.Transitions.{Transitions}
 use Rattle.system.specs.Justice.{FairSystem}
-use Rattle.run_rules.specs.declared.refusal.RunRefusal.the-variants.{StepDisabled}
+use Rattle.run_refusal.specs.declared.RunRefusal.the-variants.{StepDisabled}
 use Rattle.run_rules.specs.Judging.{or-else, after, walked, is-try, lower, least-idle, owed, neglected, least}
 
 -- What is left to walk after the first i steps, where the next leads to o.

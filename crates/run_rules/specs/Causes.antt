@@ -9,10 +9,10 @@ use Rattle.system.specs.Transitions.{Transitions, Enabled, Waits, Clash}
 use Rattle.system.specs.Runs.{Step, command, rest, Walk}
 use Rattle.system.specs.Justice.{FairSystem, ClassDisabled, OfClass}
 use Rattle.lasso.specs.BadRuns.{LoopState}
-use Rattle.run_rules.specs.declared.refusal.Place.{Place}
-use Rattle.run_rules.specs.declared.refusal.RunRefusal.{RunRefusal}
-use Rattle.run_rules.specs.declared.refusal.RunRefusal.the-variants.{WrongLength, WrongKind, WrongProcess, WrongStep, WrongLoopCount, StepDisabled, NoClash, LoopOpen, NotWaiting, ClassNeglected}
-use Rattle.run_rules.specs.Refusals.{number, placed, Earlier}
+use Rattle.run_refusal.specs.declared.Place.{Place}
+use Rattle.run_refusal.specs.declared.RunRefusal.{RunRefusal}
+use Rattle.run_refusal.specs.declared.RunRefusal.the-variants.{WrongLength, WrongKind, WrongProcess, WrongStep, WrongLoopCount, StepDisabled, NoClash, LoopOpen, NotWaiting, ClassNeglected}
+use Rattle.run_refusal.specs.Refusals.{number, placed, Earlier}
 use Rattle.run_rules.specs.Layout.{stem-length, loop-length, end, stem, cycle}
 
 -- A step's byte is at i.

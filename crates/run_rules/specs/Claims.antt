@@ -6,7 +6,7 @@ use Prim.Native.Nat.{ℕ}
 use lib.ListN.{getD}
 use Rattle.system.specs.Runs.{Run, ReachesClash, LeavesTrying}
 use Rattle.system.specs.Justice.{FairSystem, Lawful, Just}
-use Rattle.run_rules.specs.declared.refusal.RunRefusal.{RunRefusal}
+use Rattle.run_refusal.specs.declared.RunRefusal.{RunRefusal}
 use Rattle.run_rules.specs.Layout.{BadBytes}
 use Rattle.run_rules.specs.Causes.{RightRefusal}
 

@@ -13,10 +13,10 @@ use Rattle.system.specs.declared.Region.the-variants.{Idle, Try, Crit, Exit}
 use Rattle.system.specs.Transitions.{Transitions}
 use Rattle.system.specs.Justice.{FairSystem}
 use Rattle.system.specs.Tests.{is-class, class-enabled, is-clash}
-use Rattle.run_rules.specs.declared.refusal.Kind.{Kind}
-use Rattle.run_rules.specs.declared.refusal.Kind.the-variants.{Clash, Lockout}
-use Rattle.run_rules.specs.declared.refusal.RunRefusal.{RunRefusal}
-use Rattle.run_rules.specs.declared.refusal.RunRefusal.the-variants.{StepDisabled, NoClash, LoopOpen, NotWaiting, ClassNeglected}
+use Rattle.run_rules.specs.declared.Kind.{Kind}
+use Rattle.run_rules.specs.declared.Kind.the-variants.{Clash, Lockout}
+use Rattle.run_refusal.specs.declared.RunRefusal.{RunRefusal}
+use Rattle.run_refusal.specs.declared.RunRefusal.the-variants.{StepDisabled, NoClash, LoopOpen, NotWaiting, ClassNeglected}
 use Rattle.run_rules.specs.Reading.{and-then, Fields, read-run}
 
 abbrev pub or-else : {X : Type 0} → Option ℕ → (ℕ → X) → X → X

@@ -1,4 +1,3 @@
-pub mod Refusals
 pub mod Layout
 pub mod Causes
 pub mod Reading

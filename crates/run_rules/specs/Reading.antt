@@ -10,10 +10,10 @@ use Rattle.std.specs.declared.result.Result.{Result}
 use Rattle.std.specs.declared.result.Result.the-variants.{Ok, Err}
 use Rattle.bytes.specs.Numbers.{number-at}
 use Rattle.system.specs.Transitions.{Transitions}
-use Rattle.run_rules.specs.declared.refusal.Kind.{Kind}
-use Rattle.run_rules.specs.declared.refusal.Kind.the-variants.{Clash, Lockout}
-use Rattle.run_rules.specs.declared.refusal.RunRefusal.{RunRefusal}
-use Rattle.run_rules.specs.declared.refusal.RunRefusal.the-variants.{WrongLength, WrongKind, WrongProcess, WrongStep, WrongLoopCount}
+use Rattle.run_rules.specs.declared.Kind.{Kind}
+use Rattle.run_rules.specs.declared.Kind.the-variants.{Clash, Lockout}
+use Rattle.run_refusal.specs.declared.RunRefusal.{RunRefusal}
+use Rattle.run_refusal.specs.declared.RunRefusal.the-variants.{WrongLength, WrongKind, WrongProcess, WrongStep, WrongLoopCount}
 
 -- One check after another: the first that refuses decides.
 abbrev pub and-then : {X Y : Type 0} → Result X RunRefusal → (X → Result Y RunRefusal) → Result Y RunRefusal

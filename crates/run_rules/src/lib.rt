@@ -1,11 +1,12 @@
 //! Runs as bytes: which bytes are a bad run of a system, and which refusal is right for all others.
 ghost use Rattle.run_rules.specs.Claims.{One-right-refusal, Bad-bytes-are-not-refused, Bad-bytes-condemn};
 
-mod refusal;
-
-pub use refusal::Kind;
-pub use refusal::Place;
-pub use refusal::RunRefusal;
+/// The kinds of bad runs.
+#[derive(Clone, Copy)]
+pub enum Kind {
+    Clash,
+    Lockout,
+}
 
 /// At most one refusal is right for given bytes.
 pub fn one_right_refusal() -> u8

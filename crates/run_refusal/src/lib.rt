@@ -1,16 +1,9 @@
-//! The kinds of runs, and why bytes are refused as a bad run.
+//! Why bytes are refused as a bad run of a system: the refusals with their numbers and places.
 ghost use mathlib.Core.Path.{_≡_};
-ghost use Rattle.run_rules.specs.Refusals.{number, placed};
-
-/// The kinds of bad runs.
-#[derive(Clone, Copy)]
-pub enum Kind {
-    Clash,
-    Lockout,
-}
+ghost use Rattle.run_refusal.specs.Refusals.{number, placed};
 
 /// Where a fault lies; parts that the fault does not name are 0.
-#[derive(Clone, Copy, PartialEq, Debug)]
+#[derive(Clone, Copy)]
 pub struct Place {
     pub process: u8,
     pub index: usize,
@@ -18,7 +11,7 @@ pub struct Place {
 }
 
 /// Why bytes are no bad run of a system.
-#[derive(Clone, Copy, PartialEq, Debug)]
+#[derive(Clone, Copy)]
 pub enum RunRefusal {
     /// 31: a field is missing or cut, or bytes follow the last field.
     WrongLength { at: usize },
