@@ -1,17 +1,15 @@
 //! Tests of the stack over three kinds of element: operands, state codes and search frames.
-use stack::Stack;
-
-/// A state and the next command to try there.
-#[derive(Clone, Copy, PartialEq, Debug)]
-pub struct Frame {
-    pub state: u32,
-    pub next: u8,
-}
-
 #[cfg(test)]
 mod tests {
-    use super::*;
+    use stack::Stack;
     use std::test::*;
+
+    // A state and the next command to try there.
+    #[derive(Clone, Copy, PartialEq, Debug)]
+    struct Frame {
+        state: u32,
+        next: u8,
+    }
 
     #[test]
     fn operands() -> Result<(), Fail> {
