@@ -6,6 +6,7 @@ ghost use Prim.Native.Nat.{_+_, _-_, _<_};
 ghost use lib.Dec.{eqb};
 ghost use lib.ListN.{length, getD, set};
 ghost use denote.Ref.{name};
+ghost use Rattle.std.specs.Orderings.{When};
 ghost use Rattle.std.specs.declared.option.Option.the-variants.{Some, None};
 ghost use Rattle.std.specs.declared.result.Result.the-variants.{Ok, Err};
 ghost use Rattle.stack.specs.Held.{held, places, top-of, with-top};
@@ -50,11 +51,11 @@ impl<'a, T: Copy> Stack<'a, T> {
         ensures kept { λ _. ⌜ places (now (self .exit)) ≡ places (now (self .entry)) ⌝ }
         ensures cases { λ r. ⌜ elim r [ Ok _ ↦ (length (held (now (self .entry))) < places (now (self .entry))) × (held (now (self .exit)) ≡ x ∷ held (now (self .entry))) × (now (now (self .exit) .room) ≡ set (now (now (self .entry) .room)) (length (held (now (self .entry)))) x) | Err y ↦ (length (held (now (self .entry))) ≡ places (now (self .entry))) × (y ≡ x) × (now (self .exit) ≡ now (self .entry)) ] ⌝ }
     {
-        if self.len == self.room.len() {
-            return Err(x);
+        if self.has_place() {
+            Ok(self.raise(x))
+        } else {
+            Err(x)
         }
-        self.raise(x);
-        Ok(())
     }
 
     /// Takes the top away, or answers `None` where the stack is empty. The room keeps what it holds.
@@ -63,20 +64,22 @@ impl<'a, T: Copy> Stack<'a, T> {
         ensures kept { λ _. ⌜ now (now (self .exit) .room) ≡ now (now (self .entry) .room) ⌝ }
         ensures cases { λ r. ⌜ elim r [ None ↦ (held (now (self .entry)) ≡ []) × (now (self .exit) ≡ now (self .entry)) | Some x ↦ held (now (self .entry)) ≡ x ∷ held (now (self .exit)) ] ⌝ }
     {
-        if self.len == 0 {
-            return None;
+        if self.has_top() {
+            Some(self.lower())
+        } else {
+            None
         }
-        Some(self.lower())
     }
 
     /// The top, which stays.
     pub fn top(&self) -> Option<T>
         ensures { λ r. ⌜ r ≡ top-of (held (now (self .entry))) ⌝ }
     {
-        if self.len == 0 {
-            return None;
+        if self.has_top() {
+            Some(self.last())
+        } else {
+            None
         }
-        Some(element(self.room, self.len - 1))
     }
 
     /// Puts `x` in place of the top, and answers what was there; `None` where the stack is empty, which then stays so.
@@ -87,7 +90,7 @@ impl<'a, T: Copy> Stack<'a, T> {
         ensures new { λ _. ⌜ held (now (self .exit)) ≡ with-top x (held (now (self .entry))) ⌝ }
         ensures put { λ r. ⌜ elim r [ None ↦ now (self .exit) ≡ now (self .entry) | Some _ ↦ now (now (self .exit) .room) ≡ set (now (now (self .entry) .room)) (length (held (now (self .entry))) - 1) x ] ⌝ }
     {
-        if self.len == 0 {
+        if !self.has_top() {
             return None;
         }
         let old = self.lower();
@@ -95,12 +98,36 @@ impl<'a, T: Copy> Stack<'a, T> {
         Some(old)
     }
 
+    /// Whether a place of the room is free.
+    fn has_place(&self) -> bool
+        ensures { λ r. ⌜ When r (now (self .entry) .len < places (now (self .entry))) (length (held (now (self .entry))) ≡ places (now (self .entry))) ⌝ }
+    {
+        self.len < self.room.len()
+    }
+
+    /// Whether it holds an element.
+    fn has_top(&self) -> bool
+        ensures { λ r. ⌜ When r (0 < now (self .entry) .len) (held (now (self .entry)) ≡ []) ⌝ }
+    {
+        self.len > 0
+    }
+
+    /// The last element put on.
+    fn last(&self) -> T
+        requires { ⌜ 0 < now self .len ⌝ }
+        ensures { λ r. ⌜ top-of (held (now (self .entry))) ≡ Some r ⌝ }
+    {
+        element(self.room, self.len - 1)
+    }
+
     /// One place more is taken, by `x`.
     fn raise(&mut self, x: T)
         requires { ⌜ now self .len < places (now self) ⌝ }
         ensures lent { λ _. ⌜ name (now (self .exit) .room) ≡ name (now (self .entry) .room) ⌝ }
-        ensures put { λ _. ⌜ now (now (self .exit) .room) ≡ set (now (now (self .entry) .room)) (now (self .entry) .len) x ⌝ }
-        ensures more { λ _. ⌜ now (self .exit) .len ≡ now (self .entry) .len + 1 ⌝ }
+        ensures kept { λ _. ⌜ places (now (self .exit)) ≡ places (now (self .entry)) ⌝ }
+        ensures fits { λ _. ⌜ length (held (now (self .entry))) < places (now (self .entry)) ⌝ }
+        ensures holds { λ _. ⌜ held (now (self .exit)) ≡ x ∷ held (now (self .entry)) ⌝ }
+        ensures put { λ _. ⌜ now (now (self .exit) .room) ≡ set (now (now (self .entry) .room)) (length (held (now (self .entry)))) x ⌝ }
     {
         self.room[self.len] = x;
         self.len += 1;
@@ -111,8 +138,8 @@ impl<'a, T: Copy> Stack<'a, T> {
         requires { ⌜ 0 < now self .len ⌝ }
         ensures lent { λ _. ⌜ name (now (self .exit) .room) ≡ name (now (self .entry) .room) ⌝ }
         ensures same { λ _. ⌜ now (now (self .exit) .room) ≡ now (now (self .entry) .room) ⌝ }
-        ensures fewer { λ _. ⌜ now (self .entry) .len ≡ now (self .exit) .len + 1 ⌝ }
-        ensures top { λ r. ⌜ r ≡ getD (now (now (self .entry) .room)) (now (self .exit) .len) r ⌝ }
+        ensures holds { λ r. ⌜ held (now (self .entry)) ≡ r ∷ held (now (self .exit)) ⌝ }
+        ensures free { λ _. ⌜ now (self .exit) .len < places (now (self .exit)) ⌝ }
     {
         self.len -= 1;
         self.room[self.len]
