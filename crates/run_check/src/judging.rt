@@ -210,7 +210,8 @@ fn judge_lockout<S: System>(
     }
 }
 
-fn judge<S: System>(system: &S, bytes: &[u8]) -> Result<(), RunRefusal>
+/// The answer, by its computing definition.
+fn answer<S: System>(system: &S, bytes: &[u8]) -> Result<(), RunRefusal>
     ensures { λ r. ⌜ r ≡ run-answer (meaning (now (system .entry))) (now (bytes .entry)) ⌝ }
 {
     let run = read_run(system, bytes)?;
@@ -220,14 +221,12 @@ fn judge<S: System>(system: &S, bytes: &[u8]) -> Result<(), RunRefusal>
     }
 }
 
-/// Whether the bytes are a bad run of the system: accepted exactly then, and otherwise refused by the one right refusal.
-/// An accepted clash gives a run that reaches a clash, an accepted lockout a just run that leaves its process trying for
-/// ever.
-pub fn check_run<S: System>(system: &S, bytes: &[u8]) -> Result<(), RunRefusal>
+/// The answer, with what it means.
+pub(crate) fn judge<S: System>(system: &S, bytes: &[u8]) -> Result<(), RunRefusal>
     ensures right { λ r. ⌜ elim r [ Ok _ ↦ BadBytes (meaning (now (system .entry))) (now (bytes .entry)) | Err e ↦ RightRefusal (meaning (now (system .entry))) (now (bytes .entry)) e ] ⌝ }
     ensures all { λ r. ⌜ (BadBytes (meaning (now (system .entry))) (now (bytes .entry)) → r ≡ Ok tt) ⌝ }
     ensures condemned { λ r. ⌜ elim r [ Ok _ ↦ Condemned (meaning (now (system .entry))) (now (bytes .entry)) | Err _ ↦ Unit {0} ] ⌝ }
     ensures same { λ r. ⌜ r ≡ run-answer (meaning (now (system .entry))) (now (bytes .entry)) ⌝ }
 {
-    judge(system, bytes)
+    answer(system, bytes)
 }

@@ -11,7 +11,7 @@ use run_rules::Kind;
 use system::System;
 
 /// The byte of the rest step.
-pub const REST: u8 = 255;
+pub(crate) const REST: u8 = 255;
 
 fn kind_at(bytes: &[u8]) -> Result<Kind, RunRefusal>
     ensures { λ r. ⌜ r ≡ kind-at (now (bytes .entry)) ⌝ }
@@ -118,14 +118,14 @@ fn steps_at(bytes: &[u8], at: usize, count: usize, commands: u8) -> Result<&[u8]
 
 /// A run as it is read: its steps are bytes yet.
 #[derive(Clone, Copy)]
-pub struct Run<'a> {
+pub(crate) struct Run<'a> {
     pub kind: Kind,
     pub process: u8,
     pub stem: &'a [u8],
     pub cycle: &'a [u8],
 }
 
-pub fn read_run<'a, S: System>(system: &S, bytes: &'a [u8]) -> Result<Run<'a>, RunRefusal>
+pub(crate) fn read_run<'a, S: System>(system: &S, bytes: &'a [u8]) -> Result<Run<'a>, RunRefusal>
     ensures same { λ r. ⌜ elim r [ Ok run ↦ read-run (meaning (now (system .entry)) .steps) (now (bytes .entry)) ≡ Ok (fields (run .kind) (run .process) (now (run .stem)) (now (run .cycle))) | Err e ↦ read-run (meaning (now (system .entry)) .steps) (now (bytes .entry)) ≡ Err e ] ⌝ }
     ensures fits { λ r. ⌜ elim r [ Ok run ↦ length (now (run .stem)) + length (now (run .cycle)) ≤ length (now (bytes .entry)) | Err e ↦ Unit {0} ] ⌝ }
 {

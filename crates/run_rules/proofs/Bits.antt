@@ -1,6 +1,7 @@
 -- Masks of classes, bit by bit.
 use mathlib.Core.Path.{_≡_, refl, sym, _∙_, ap, subst}
 use mathlib.Core.Bool.{Bool, true, false, not, _&&_, _||_}
+use mathlib.Core.List.{List}
 use mathlib.Core.Logic.{_⊎_, inl, inr}
 use Prim.Native.Nat.{ℕ, zero, suc, _+_, _-_, _*_, _/_, _%_, _^_, _≤_, _<_}
 use native.Mathlib.Omega.{arith}
@@ -8,6 +9,7 @@ use native.Mathlib.Nat.{mod-lt, div-eq-of-lt, pow-suc, zero-div}
 use native.Mathlib.Numerals.{add-one}
 use lib.Bits.{bitAnd, bitOr}
 use lib.Dec.{eqb}
+use lib.ListN.{length, getD, drop}
 use lib.Pow.{pow-lt}
 use Rattle.std.proofs.shelf.Bits.{and-shr, and-mod, pow-add, shl-shr, one-shl, mod-mul-add}
 use Rattle.std.proofs.shelf.Tests.{cases-order, eq-eqb, ne-eqb, eqb-true}
@@ -18,7 +20,8 @@ use Rattle.system.specs.Masks.{bit}
 use Rattle.system.specs.Justice.{FairSystem}
 use Rattle.system.specs.Tests.{some-below, is-class, class-enabled}
 use Rattle.system.proofs.Masks.{bit-or}
-use Rattle.run_rules.specs.Judging.{owed}
+use Rattle.run_rules.specs.Judging.{or-else, after, neglected}
+use Rattle.run_rules.proofs.Walks.{neglected-more}
 
 digit-and : (x y : ℕ) → x < 2 → y < 2 → eqb (bitAnd x y) 1 ≡ (eqb x 1 && eqb y 1)
 digit-and zero zero hx hy = refl
@@ -102,8 +105,11 @@ or-false false = refl
 pub bit-none : (j : ℕ) → bit 0 j ≡ false
 bit-none j = ap (λ n. eqb (n % 2) 1) (zero-div (2 ^ j))
 
--- What is still owed after one step more.
-pub still-owed : (S : FairSystem) (s b o r j : ℕ) (taken : Option ℕ) → taken ≡ S .class b →
-    bit r j ≡ (class-enabled S s j && not (is-class taken j)) → bit (bitAnd o r) j ≡ (bit o j && owed S j s b)
-still-owed S s b o r j taken e h =
-    bit-and o r j ∙ ap (λ x. bit o j && x) (h ∙ ap (λ k. class-enabled S s j && not (is-class k j)) e)
+-- One step more of the loop that gathers the classes still owed: o is the mask before it, and r that of its state.
+pub neglected-turn : (S : FairSystem) (xs : List ℕ) (i s j o r : ℕ) (taken next : Option ℕ) → i < length xs →
+    taken ≡ S .class (getD xs i 0) → bit r j ≡ (class-enabled S s j && not (is-class taken j)) →
+    after (S .steps) s (getD xs i 0) ≡ next →
+    (bit o j && neglected S j s (drop i xs)) ≡ (bit (bitAnd o r) j && or-else next (λ t. neglected S j t (drop (i + 1) xs)) true)
+neglected-turn S xs i s j o r taken next h e q a =
+    neglected-more S xs i s j (bit o j) (bit (bitAnd o r) j) next h
+    (bit-and o r j ∙ ap (λ x. bit o j && x) (q ∙ ap (λ k. class-enabled S s j && not (is-class k j)) e)) a
