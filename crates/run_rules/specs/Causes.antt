@@ -13,7 +13,7 @@ use Rattle.run_refusal.specs.declared.Place.{Place}
 use Rattle.run_refusal.specs.declared.RunRefusal.{RunRefusal}
 use Rattle.run_refusal.specs.declared.RunRefusal.the-variants.{WrongLength, WrongKind, WrongProcess, WrongStep, WrongLoopCount, StepDisabled, NoClash, LoopOpen, NotWaiting, ClassNeglected}
 use Rattle.run_refusal.specs.Refusals.{number, placed, Earlier}
-use Rattle.run_rules.specs.Layout.{stem-length, loop-length, end, stem, cycle}
+use Rattle.run_rules.specs.Layout.{kind-byte, process-byte, stem-length, loop-length, end, stem, cycle}
 
 -- A step's byte is at i.
 abbrev pub StepAt : List ℕ → ℕ → Type 0
@@ -25,30 +25,35 @@ abbrev pub Field : List ℕ → ℕ → ℕ → Type 0
 Field bytes i w =
     ((w ≡ 1) × ((i < 2) ⊎ StepAt bytes i)) ⊎ ((w ≡ 4) × ((i ≡ 2) ⊎ (i ≡ 6 + stem-length bytes)))
 
+-- The stem leads from the start to s.
+abbrev pub StemTo : FairSystem → List ℕ → ℕ → Type 0
+StemTo S bytes s = Walk (S .steps) (S .steps .start) (stem bytes) s
+
 -- What each refusal says of the bytes.
 abbrev pub Cause : FairSystem → List ℕ → RunRefusal → Type 0
+-- a field that begins at i is missing or cut, or i is the first byte past the last field
 Cause S bs (WrongLength i) = ((w : ℕ) × Field bs i w × (length bs < i + w)) ⊎ ((i ≡ end bs) × (i < length bs))
-Cause S bs WrongKind = (0 < length bs) × ¬ (getD bs 0 0 ≡ 1) × ¬ (getD bs 0 0 ≡ 2)
+Cause S bs WrongKind = (0 < length bs) × ¬ (kind-byte bs ≡ 1) × ¬ (kind-byte bs ≡ 2)
 Cause S bs WrongProcess =
-    (1 < length bs) × ((S .steps .processes ≤ getD bs 1 0) ⊎ ((getD bs 0 0 ≡ 1) × ¬ (getD bs 1 0 ≡ 0)))
+    (1 < length bs) × ((S .steps .processes ≤ process-byte bs) ⊎ ((kind-byte bs ≡ 1) × ¬ (process-byte bs ≡ 0)))
 Cause S bs (WrongStep i) =
     StepAt bs i × (i < length bs) × ¬ (getD bs i 0 ≡ 255) × (S .steps .commands ≤ getD bs i 0)
 Cause S bs (WrongLoopCount i) =
     (i ≡ 6 + stem-length bs) × (i + 4 ≤ length bs)
-    × (((getD bs 0 0 ≡ 2) × (loop-length bs ≡ 0)) ⊎ ((getD bs 0 0 ≡ 1) × ¬ (loop-length bs ≡ 0)))
+    × (((kind-byte bs ≡ 2) × (loop-length bs ≡ 0)) ⊎ ((kind-byte bs ≡ 1) × ¬ (loop-length bs ≡ 0)))
+-- the steps before the step i, of stem and loop, lead to a state where its command k is disabled
 Cause S bs (StepDisabled i k) =
     (s : ℕ) × Walk (S .steps) (S .steps .start) (take i (stem bs ++ cycle bs)) s × (i < length (stem bs ++ cycle bs))
     × (getD (stem bs ++ cycle bs) i rest ≡ command k) × ¬ Enabled (S .steps) s k
-Cause S bs (NoClash s) = (getD bs 0 0 ≡ 1) × Walk (S .steps) (S .steps .start) (stem bs) s × ¬ Clash (S .steps) s
-Cause S bs (LoopOpen t) =
-    (getD bs 0 0 ≡ 2)
-    × ((s : ℕ) × Walk (S .steps) (S .steps .start) (stem bs) s × Walk (S .steps) s (cycle bs) t × ¬ (s ≡ t))
+Cause S bs (NoClash s) = (kind-byte bs ≡ 1) × StemTo S bs s × ¬ Clash (S .steps) s
+Cause S bs (LoopOpen t) = (kind-byte bs ≡ 2) × ((s : ℕ) × StemTo S bs s × Walk (S .steps) s (cycle bs) t × ¬ (s ≡ t))
 Cause S bs (NotWaiting p u) =
-    (getD bs 0 0 ≡ 2) × (p ≡ getD bs 1 0)
-    × ((s : ℕ) × Walk (S .steps) (S .steps .start) (stem bs) s × LoopState (S .steps) s (cycle bs) u × ¬ Waits (S .steps) p u)
+    (kind-byte bs ≡ 2) × (p ≡ process-byte bs)
+    × ((s : ℕ) × StemTo S bs s × LoopState (S .steps) s (cycle bs) u × ¬ Waits (S .steps) p u)
+-- the class j is enabled at each loop state, and taken by no step of the loop
 Cause S bs (ClassNeglected j) =
-    (getD bs 0 0 ≡ 2) × (j < S .classes)
-    × ((s : ℕ) × Walk (S .steps) (S .steps .start) (stem bs) s
+    (kind-byte bs ≡ 2) × (j < S .classes)
+    × ((s : ℕ) × StemTo S bs s
     × ((u : ℕ) → LoopState (S .steps) s (cycle bs) u → ¬ ClassDisabled S u j)
     × ((a : Step) → Has (cycle bs) a → ¬ OfClass S a j))
 

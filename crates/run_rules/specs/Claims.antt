@@ -3,11 +3,10 @@ use mathlib.Core.Path.{_≡_}
 use mathlib.Core.Logic.{_⊎_}
 use mathlib.Core.List.{List}
 use Prim.Native.Nat.{ℕ}
-use lib.ListN.{getD}
 use Rattle.system.specs.Runs.{Run, ReachesClash, LeavesTrying}
 use Rattle.system.specs.Justice.{FairSystem, Lawful, Just}
 use Rattle.run_refusal.specs.declared.RunRefusal.{RunRefusal}
-use Rattle.run_rules.specs.Layout.{BadBytes}
+use Rattle.run_rules.specs.Layout.{BadBytes, kind-byte, process-byte}
 use Rattle.run_rules.specs.Causes.{RightRefusal}
 
 -- At most one refusal is right.
@@ -24,8 +23,8 @@ Bad-bytes-are-not-refused =
 -- process of the process byte trying for ever.
 abbrev pub Condemned : FairSystem → List ℕ → Type 0
 Condemned S bytes =
-    ((getD bytes 0 0 ≡ 1) × ((r : Run (S .steps)) × ReachesClash r))
-    ⊎ ((getD bytes 0 0 ≡ 2) × ((r : Run (S .steps)) × Just S r × LeavesTrying r (getD bytes 1 0)))
+    ((kind-byte bytes ≡ 1) × ((r : Run (S .steps)) × ReachesClash r))
+    ⊎ ((kind-byte bytes ≡ 2) × ((r : Run (S .steps)) × Just S r × LeavesTrying r (process-byte bytes)))
 
 -- The bytes of a bad run condemn the lock.
 abbrev pub Bad-bytes-condemn : Type 0

@@ -4,7 +4,7 @@ use mathlib.Core.Bool.{cond}
 use mathlib.Core.List.{List, [], _∷_, _++_, map}
 use Prim.Native.Nat.{ℕ, _+_, _^_, _<_}
 use lib.Dec.{eqb}
-use lib.ListN.{length, take, drop}
+use lib.ListN.{length, getD, take, drop}
 use Rattle.bytes.specs.Numbers.{encoded, number-at}
 use Rattle.lasso.specs.BadRuns.{ClashRun, LockoutRun}
 use Rattle.system.specs.Runs.{Step, command, rest}
@@ -28,6 +28,12 @@ pub data BadBytes (S : FairSystem) (bytes : List ℕ) : Type 0 where
       bytes ≡ run-bytes 2 p stem loop → BadBytes S bytes
 
 -- Where the fields lie in any bytes: kind at 0, process at 1, stem count at 2, stem from 6 on, then loop count and loop.
+abbrev pub kind-byte : List ℕ → ℕ
+kind-byte bytes = getD bytes 0 0
+
+abbrev pub process-byte : List ℕ → ℕ
+process-byte bytes = getD bytes 1 0
+
 abbrev pub stem-length : List ℕ → ℕ
 stem-length bytes = number-at bytes 2
 
@@ -41,6 +47,7 @@ end bytes = 10 + stem-length bytes + loop-length bytes
 abbrev pub step-of : ℕ → Step
 step-of b = cond (eqb b 255) rest (command b)
 
+-- The steps of the stem, and of the loop.
 abbrev pub stem : List ℕ → List Step
 stem bytes = map step-of (take (stem-length bytes) (drop 6 bytes))
 

@@ -24,220 +24,238 @@ mod tests {
     }
 
     // One process: idle, try, crit and back; only the last command has a class.
-    fn unclassed_lock<'a>(shape: Shape) -> Table<'a> {
-        Table {
-            shape,
-            successors: &[
-                Some(1),
-                None,
-                None,
-                None,
-                Some(2),
-                None,
-                None,
-                None,
-                Some(0),
-            ],
-            classed: &[None, None, Some(0)],
-            regions: &[Region::Idle, Region::Try, Region::Crit],
-        }
-    }
+    const UNCLASSED_SUCCESSORS: [Option<u32>; 9] = [
+        Some(1),
+        None,
+        None,
+        None,
+        Some(2),
+        None,
+        None,
+        None,
+        Some(0),
+    ];
 
-    // Two processes and a bit that each tests and sets. A state is the bit, then the places of process 0 and process 1, as
-    // digits of a number in base 2, 3 and 3, lightest first. Commands 0 to 2 are of process 0: to try, to crit, back.
-    fn test_and_set_lock<'a>(shape: Shape) -> Table<'a> {
-        Table {
-            shape,
-            successors: &[
-                Some(2),
-                None,
-                None,
-                Some(6),
-                None,
-                None,
-                Some(3),
-                None,
-                None,
-                Some(7),
-                None,
-                None,
-                None,
-                Some(5),
-                None,
-                Some(8),
-                None,
-                None,
-                None,
-                None,
-                None,
-                Some(9),
-                None,
-                None,
-                None,
-                None,
-                Some(0),
-                Some(10),
-                None,
-                None,
-                None,
-                None,
-                Some(0),
-                Some(11),
-                None,
-                None,
-                Some(8),
-                None,
-                None,
-                None,
-                Some(13),
-                None,
-                Some(9),
-                None,
-                None,
-                None,
-                None,
-                None,
-                None,
-                Some(11),
-                None,
-                None,
-                Some(15),
-                None,
-                None,
-                None,
-                None,
-                None,
-                None,
-                None,
-                None,
-                None,
-                Some(6),
-                None,
-                Some(17),
-                None,
-                None,
-                None,
-                Some(6),
-                None,
-                None,
-                None,
-                Some(14),
-                None,
-                None,
-                None,
-                None,
-                Some(0),
-                Some(15),
-                None,
-                None,
-                None,
-                None,
-                Some(0),
-                None,
-                Some(17),
-                None,
-                None,
-                None,
-                Some(2),
-                None,
-                None,
-                None,
-                None,
-                None,
-                Some(2),
-                None,
-                None,
-                Some(12),
-                None,
-                None,
-                Some(4),
-                None,
-                None,
-                Some(12),
-                None,
-                None,
-                Some(4),
-            ],
-            classed: &[None, Some(0), Some(0), None, Some(1), Some(1)],
-            regions: &[
-                Region::Idle,
-                Region::Idle,
-                Region::Idle,
-                Region::Idle,
-                Region::Try,
-                Region::Idle,
-                Region::Try,
-                Region::Idle,
-                Region::Crit,
-                Region::Idle,
-                Region::Crit,
-                Region::Idle,
-                Region::Idle,
-                Region::Try,
-                Region::Idle,
-                Region::Try,
-                Region::Try,
-                Region::Try,
-                Region::Try,
-                Region::Try,
-                Region::Crit,
-                Region::Try,
-                Region::Crit,
-                Region::Try,
-                Region::Idle,
-                Region::Crit,
-                Region::Idle,
-                Region::Crit,
-                Region::Try,
-                Region::Crit,
-                Region::Try,
-                Region::Crit,
-                Region::Crit,
-                Region::Crit,
-                Region::Crit,
-                Region::Crit,
-            ],
-        }
-    }
+    const UNCLASSED_CLASSES: [Option<u8>; 3] = [None, None, Some(0)];
 
-    // Two processes that enter crit as they like: state 3 is a clash.
-    fn open_door<'a>(shape: Shape) -> Table<'a> {
-        Table {
-            shape,
-            successors: &[Some(1), Some(2), None, Some(3), Some(3), None, None, None],
-            classed: &[None, None],
-            regions: &[
-                Region::Idle,
-                Region::Idle,
-                Region::Crit,
-                Region::Idle,
-                Region::Idle,
-                Region::Crit,
-                Region::Crit,
-                Region::Crit,
-            ],
-        }
-    }
+    const UNCLASSED_REGIONS: [Region; 3] = [Region::Idle, Region::Try, Region::Crit];
 
     fn unclassed(bytes: &[u8], wanted: Answer) -> Result<(), Fail> {
         let Some(shape) = Shape::new(1, 1, 3, 3, 0) else {
             return Err(Fail::new("shape"));
         };
-        check_eq(answer(&unclassed_lock(shape), bytes), wanted)
+        let lock = Table {
+            shape,
+            successors: &UNCLASSED_SUCCESSORS,
+            classed: &UNCLASSED_CLASSES,
+            regions: &UNCLASSED_REGIONS,
+        };
+        check_eq(answer(&lock, bytes), wanted)
     }
+
+    // Two processes and a bit that each tests and sets. A state is the bit, then the places of process 0 and process 1, as
+    // digits of a number in base 2, 3 and 3, lightest first. Commands 0 to 2 are of process 0: to try, to crit, back.
+    const TEST_AND_SET_SUCCESSORS: [Option<u32>; 108] = [
+        Some(2),
+        None,
+        None,
+        Some(6),
+        None,
+        None,
+        Some(3),
+        None,
+        None,
+        Some(7),
+        None,
+        None,
+        None,
+        Some(5),
+        None,
+        Some(8),
+        None,
+        None,
+        None,
+        None,
+        None,
+        Some(9),
+        None,
+        None,
+        None,
+        None,
+        Some(0),
+        Some(10),
+        None,
+        None,
+        None,
+        None,
+        Some(0),
+        Some(11),
+        None,
+        None,
+        Some(8),
+        None,
+        None,
+        None,
+        Some(13),
+        None,
+        Some(9),
+        None,
+        None,
+        None,
+        None,
+        None,
+        None,
+        Some(11),
+        None,
+        None,
+        Some(15),
+        None,
+        None,
+        None,
+        None,
+        None,
+        None,
+        None,
+        None,
+        None,
+        Some(6),
+        None,
+        Some(17),
+        None,
+        None,
+        None,
+        Some(6),
+        None,
+        None,
+        None,
+        Some(14),
+        None,
+        None,
+        None,
+        None,
+        Some(0),
+        Some(15),
+        None,
+        None,
+        None,
+        None,
+        Some(0),
+        None,
+        Some(17),
+        None,
+        None,
+        None,
+        Some(2),
+        None,
+        None,
+        None,
+        None,
+        None,
+        Some(2),
+        None,
+        None,
+        Some(12),
+        None,
+        None,
+        Some(4),
+        None,
+        None,
+        Some(12),
+        None,
+        None,
+        Some(4),
+    ];
+
+    const TEST_AND_SET_CLASSES: [Option<u8>; 6] = [None, Some(0), Some(0), None, Some(1), Some(1)];
+
+    const TEST_AND_SET_REGIONS: [Region; 36] = [
+        Region::Idle,
+        Region::Idle,
+        Region::Idle,
+        Region::Idle,
+        Region::Try,
+        Region::Idle,
+        Region::Try,
+        Region::Idle,
+        Region::Crit,
+        Region::Idle,
+        Region::Crit,
+        Region::Idle,
+        Region::Idle,
+        Region::Try,
+        Region::Idle,
+        Region::Try,
+        Region::Try,
+        Region::Try,
+        Region::Try,
+        Region::Try,
+        Region::Crit,
+        Region::Try,
+        Region::Crit,
+        Region::Try,
+        Region::Idle,
+        Region::Crit,
+        Region::Idle,
+        Region::Crit,
+        Region::Try,
+        Region::Crit,
+        Region::Try,
+        Region::Crit,
+        Region::Crit,
+        Region::Crit,
+        Region::Crit,
+        Region::Crit,
+    ];
 
     fn test_and_set(bytes: &[u8], wanted: Answer) -> Result<(), Fail> {
         let Some(shape) = Shape::new(2, 2, 6, 18, 0) else {
             return Err(Fail::new("shape"));
         };
-        check_eq(answer(&test_and_set_lock(shape), bytes), wanted)
+        let lock = Table {
+            shape,
+            successors: &TEST_AND_SET_SUCCESSORS,
+            classed: &TEST_AND_SET_CLASSES,
+            regions: &TEST_AND_SET_REGIONS,
+        };
+        check_eq(answer(&lock, bytes), wanted)
     }
+
+    // Two processes that enter crit as they like: state 3 is a clash.
+    const OPEN_DOOR_SUCCESSORS: [Option<u32>; 8] = [
+        Some(1),
+        Some(2),
+        None,
+        Some(3),
+        Some(3),
+        None,
+        None,
+        None,
+    ];
+
+    const OPEN_DOOR_CLASSES: [Option<u8>; 2] = [None, None];
+
+    const OPEN_DOOR_REGIONS: [Region; 8] = [
+        Region::Idle,
+        Region::Idle,
+        Region::Crit,
+        Region::Idle,
+        Region::Idle,
+        Region::Crit,
+        Region::Crit,
+        Region::Crit,
+    ];
 
     fn open(bytes: &[u8], wanted: Answer) -> Result<(), Fail> {
         let Some(shape) = Shape::new(2, 0, 2, 4, 0) else {
             return Err(Fail::new("shape"));
         };
-        check_eq(answer(&open_door(shape), bytes), wanted)
+        let lock = Table {
+            shape,
+            successors: &OPEN_DOOR_SUCCESSORS,
+            classed: &OPEN_DOOR_CLASSES,
+            regions: &OPEN_DOOR_REGIONS,
+        };
+        check_eq(answer(&lock, bytes), wanted)
     }
 
     #[test]
@@ -296,6 +314,16 @@ mod tests {
             &[2, 0, 1, 0, 0, 0, 0, 3, 0, 0, 0, 3, 4, 5, 0],
             (31, 0, 14, 0),
         )
+    }
+
+    #[test]
+    fn the_shortest_of_each_fault() -> Result<(), Fail> {
+        test_and_set(&[], (31, 0, 0, 0))?;
+        test_and_set(&[3], (32, 0, 0, 0))?;
+        test_and_set(&[2, 2], (33, 0, 1, 0))?;
+        test_and_set(&[2, 0, 1, 0, 0, 0, 6], (34, 0, 6, 0))?;
+        test_and_set(&[2, 0, 1, 0, 0, 0, 0, 0, 0, 0, 0], (35, 0, 7, 0))?;
+        test_and_set(&[1, 0, 1, 0, 0, 0, 0, 0, 0, 0, 0], (37, 0, 2, 0))
     }
 
     #[test]
