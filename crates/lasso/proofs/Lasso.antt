@@ -2,9 +2,10 @@
 use mathlib.Core.Path.{_≡_, refl, sym, ap, ap₂, subst, _∙_}
 use mathlib.Core.Logic.{_⊎_, inl, inr}
 use mathlib.Core.List.{List, [], _∷_, _++_, append-nil, append-assoc}
-use Prim.Native.Nat.{ℕ, zero, suc, _+_, _≤_, _<_}
+use Prim.Native.Nat.{ℕ, zero, suc, _+_, _*_, _≤_, _<_}
 use native.Mathlib.Decide.{le-ind}
 use native.Mathlib.Omega.{arith}
+use native.Mathlib.Nat.{suc-mul}
 use lib.ListN.{length, getD, take, drop, take-append-drop, length-append}
 use Rattle.std.specs.shelf.Lists.{Has}
 use Rattle.std.specs.declared.option.Option.the-variants.{Some}
@@ -12,7 +13,7 @@ use Rattle.system.specs.Transitions.{Transitions, Waits}
 use Rattle.system.specs.Runs.{Step, command, rest, Leads, Walk, Run}
 use Rattle.system.specs.Justice.{FairSystem, ClassDisabled, OfClass, Just, InfinitelyOften}
 use Rattle.lasso.specs.BadRuns.{LoopState, TreatedJustly, ClashRun, LockoutRun, BadRun, clash, lockout}
-use Rattle.lasso.specs.Claims.{Clash-run-reaches-clash, Lockout-leaves-trying, Bad-run-breaks-lock}
+use Rattle.lasso.specs.Claims.{StemThenLoop, Clash-run-reaches-clash, Lockout-leaves-trying, Bad-run-breaks-lock}
 
 take-front : {A : Type 0} (v w : List A) → take (length v) (v ++ w) ≡ v
 take-front [] w = refl
@@ -157,6 +158,47 @@ module _ (T : Transitions) where
       unfolding run
       keeps P holds = (arrives .0, λ i late. holds (point i .state) (loop-state (point i) (in-loop (arrives .0) (arrives .1) i late)))
 
+      -- the steps of w come next at the moment i
+      abbrev Next : ℕ → List Step → Type 0
+      Next i w = (point i .first ≡ lead w) × (point i .later ≡ others w)
+
+      next-steps : (v w : List Step) (i : ℕ) → Next i (v ++ w) →
+          ((k : ℕ) → k < length v → point (i + k) .first ≡ getD v k rest) × Next (i + length v) w
+      next-steps [] w i at =
+          ((λ k h. absurd (let f : ⊥ = omega arith in f)), let P : ℕ → Type 0 = λ m. Next m w in subst P (let q : i ≡ i + 0 = omega arith in q) at)
+      next-steps (a ∷ v) w i (f, g) =
+          let (steps, then) = next-steps v w (suc i) (ap lead g, ap others g) in
+          let P : ℕ → Type 0 = λ m. Next m w in
+          (each steps, subst P (let q : suc i + length v ≡ i + suc (length v) = omega arith in q) then)
+        where
+          each : ((k : ℕ) → k < length v → point (suc i + k) .first ≡ getD v k rest) → (k : ℕ) → k < suc (length v) → point (i + k) .first ≡ getD (a ∷ v) k rest
+          each later zero h = ap (λ m. point m .first) (let q : i + 0 ≡ i = omega arith in q) ∙ f
+          each later (suc k) h =
+              ap (λ m. point m .first) (let q : i + suc k ≡ suc i + k = omega arith in q) ∙ later k (omega arith)
+
+      stem-next : ((k : ℕ) → k < length stem → point (0 + k) .first ≡ getD stem k rest) × Next (0 + length stem) []
+      stem-next = next-steps stem [] 0 (rw (append-nil stem) (refl, refl))
+
+      -- each round begins with the whole loop before it
+      round : (n : ℕ) → Next (length stem + n * length (a₀ ∷ w₀)) (a₀ ∷ w₀)
+      round zero = let P : ℕ → Type 0 = λ m. Next m (a₀ ∷ w₀) in subst P (let q : 0 + length stem ≡ length stem + 0 * length (a₀ ∷ w₀) = omega arith in q) (stem-next .1)
+      round (suc n) =
+          let all : List Step = a₀ ∷ w₀ in
+          let at = length stem + n * length all in
+          let Q : List Step → Type 0 = λ l. Next at l in
+          let here : Next at (all ++ []) = subst Q (sym (append-nil all)) (round n) in
+          let P : ℕ → Type 0 = λ m. Next m all in
+          subst P (let q : at + length all ≡ length stem + suc n * length all = omega (arith, suc-mul n (length all)) in q) (next-steps all [] at here .1)
+
+      stem-then-loop : StemThenLoop stem (a₀ ∷ w₀) run
+      unfolding run
+      stem-then-loop = (
+        (λ i h. ap (λ m. point m .first) (let q : i ≡ 0 + i = omega arith in q) ∙ stem-next .0 i h),
+        λ n i h. let all : List Step = a₀ ∷ w₀ in
+            let at = length stem + n * length all in
+            next-steps all [] at (let P : List Step → Type 0 = λ l. Next at l in subst P (sym (append-nil all)) (round n)) .0 i h,
+      )
+
 pub clash-run-reaches-clash : Clash-run-reaches-clash
 clash-run-reaches-clash T stem c =
     let still : Walk T (c .last) (rest ∷ []) (c .last) = (c .last, refl, refl) in
@@ -167,6 +209,7 @@ pub lockout-leaves-trying : Lockout-leaves-trying
 lockout-leaves-trying S p stem [] c = let none : 1 ≤ 0 = c .some-step in absurd (omega arith)
 lockout-leaves-trying S p stem (a ∷ w) c = (
   run (S .steps) (c .head) a w (c .closed) stem (c .stem-walk),
+  stem-then-loop (S .steps) (c .head) a w (c .closed) stem (c .stem-walk),
   just,
   keeps (S .steps) (c .head) a w (c .closed) stem (c .stem-walk) (Waits (S .steps) p) (c .waiting),
 )
@@ -187,5 +230,5 @@ bad-run-breaks-lock S (clash stem c) correct =
     let (r, reaches) = clash-run-reaches-clash (S .steps) stem c in
     correct .no-clash r reaches
 bad-run-breaks-lock S (lockout p stem loop c) correct =
-    let (r, just, leaves) = lockout-leaves-trying S p stem loop c in
+    let (r, _, just, leaves) = lockout-leaves-trying S p stem loop c in
     correct .no-lockout r just p (c .process-below) leaves

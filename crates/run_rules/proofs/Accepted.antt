@@ -27,7 +27,8 @@ bad-bytes-condemn S bs (clash-bytes stem few c e) =
 bad-bytes-condemn S bs (lockout-bytes p stem loop few few′ c e) =
     let q : getD bs 1 0 ≡ p = ap (λ l. getD l 1 0) e in
     let P : ℕ → Type 0 = λ k. (r : Run (S .steps)) × Just S r × LeavesTrying r k in
-    inr (ap (λ l. getD l 0 0) e, subst P (sym q) (lockout-leaves-trying S p stem loop c))
+    let (r, _, just, leaves) = lockout-leaves-trying S p stem loop c in
+    inr (ap (λ l. getD l 0 0) e, subst P (sym q) (r, just, leaves))
 
 module _ (S : FairSystem) (law : Lawful S) (bs : List ℕ) where
   abbrev pub Right : Result (Unit {0}) RunRefusal → Type 0
