@@ -52,7 +52,8 @@ impl<'a, T: Copy> Stack<'a, T> {
         ensures cases { λ r. ⌜ elim r [ Ok _ ↦ (length (held (now (self .entry))) < places (now (self .entry))) × (held (now (self .exit)) ≡ x ∷ held (now (self .entry))) × (now (now (self .exit) .room) ≡ set (now (now (self .entry) .room)) (length (held (now (self .entry)))) x) | Err y ↦ (length (held (now (self .entry))) ≡ places (now (self .entry))) × (y ≡ x) × (now (self .exit) ≡ now (self .entry)) ] ⌝ }
     {
         if self.has_place() {
-            Ok(self.raise(x))
+            self.raise(x);
+            Ok(())
         } else {
             Err(x)
         }
