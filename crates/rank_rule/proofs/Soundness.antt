@@ -37,7 +37,7 @@ module _ (S : FairSystem) (C : Certificate) (start : StartListed S C) (closed : 
 
     advance : (s t : ℕ) (a : Step) (row : Row (List ℕ)) → RowAt C p s row → Leads (S .steps) s a t → Waits (S .steps) p t → After t a row
     unfolding After
-    advance s t (command k) row at leads waits = falling s row k t at leads waits
+    advance s t (command k) row at leads waits = falling s k row t at leads waits
     advance s t rest row at leads waits =
         (row, (at .0, at .1 ∙ leads), inr (laws .same-refl (row .rank), refl, λ no-class. no-class))
 
