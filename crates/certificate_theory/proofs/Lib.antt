@@ -1,0 +1,4 @@
+pub mod Tests
+pub mod Scans
+pub mod Entries
+pub mod Contents
