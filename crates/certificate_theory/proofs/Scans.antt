@@ -58,7 +58,7 @@ first-of-none a b e = ap (λ o. first-of o b) e
 pub first-of-some : (a b : Option Refusal) (e : Refusal) → a ≡ Some e → first-of a b ≡ Some e
 first-of-some a b e h = ap (λ o. first-of o b) h
 
-first-of-assoc : (a b c : Option Refusal) → first-of (first-of a b) c ≡ first-of a (first-of b c)
+pub first-of-assoc : (a b c : Option Refusal) → first-of (first-of a b) c ≡ first-of a (first-of b c)
 first-of-assoc (Some x) b c = refl
 first-of-assoc None b c = refl
 

@@ -1,6 +1,6 @@
 -- When a field is right, and which fault of reading decides. Assumes nothing.
 use mathlib.Core.Path.{_≡_}
-use mathlib.Core.Bool.{Bool, true, cond, _&&_}
+use mathlib.Core.Bool.{Bool, true, false, cond, _&&_}
 use mathlib.Core.Logic.{_⊎_}
 use mathlib.Core.List.{List, [], _∷_, _++_}
 use Prim.Native.Nat.{ℕ, _+_, _≤_, _<_}
@@ -106,3 +106,11 @@ abbrev pub reading-fault : Limits → List ℕ → Option Refusal
 reading-fault L bytes =
     first-of (first-fault L bytes 0 (fields L bytes))
     (cond (ltb (widths (fields L bytes)) (length bytes)) (Some (Length (widths (fields L bytes)))) None)
+
+-- Reading finds no fault.
+abbrev pub is-none : Option Refusal → Bool
+is-none (Some e) = false
+is-none None = true
+
+abbrev pub reads-whole : Limits → List ℕ → Bool
+reads-whole L bytes = is-none (reading-fault L bytes)
