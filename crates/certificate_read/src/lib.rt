@@ -12,7 +12,6 @@ ghost use Rattle.certificate_theory.specs.Content.{list-start, limits-of};
 ghost use Rattle.certificate_read.specs.Views.{tail-of, entry-width, refusal-in, Begins, ReadRightly};
 
 mod shape;
-mod view;
 
 use bytes::number_at;
 use certificate_theory::Limits;
@@ -20,7 +19,6 @@ use certificate_theory::Refusal;
 use rank::Rank;
 use shape::Shape;
 use system::System;
-pub use view::View;
 
 // The numbers of a rank are all there.
 fn check_numbers(bytes: &[u8], at: usize, count: u8) -> Result<(), Refusal>

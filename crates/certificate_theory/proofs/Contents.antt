@@ -40,6 +40,12 @@ lists-of n bytes (suc m) at (suc p) h =
     lists-of n bytes m (list-end bytes at (5 + 4 * n)) p (omega arith)
     ∙ ap (λ x. rows-at n bytes (x + 4) (number-at bytes x)) (start-after bytes n at p)
 
+pub lists-past : (n : ℕ) (bytes : List ℕ) (m at p : ℕ) → m ≤ p → getD (row-lists-at n bytes at m) p [] ≡ []
+lists-past n bytes zero at zero h = refl
+lists-past n bytes zero at (suc p) h = refl
+lists-past n bytes (suc m) at zero h = absurd (omega arith)
+lists-past n bytes (suc m) at (suc p) h = lists-past n bytes m (list-end bytes at (5 + 4 * n)) p (omega arith)
+
 module _ (L : Limits) (bytes : List ℕ) where
   pub place-listed : (i : ℕ) → i < number-at bytes 1 → Listed (content L bytes) (number-at bytes (5 + 4 * i))
   place-listed i h =

@@ -3,3 +3,5 @@ pub mod Scans
 pub mod Entries
 pub mod Contents
 pub mod Loops
+pub mod Points
+pub mod Finds

@@ -15,7 +15,7 @@ use Rattle.certificate_theory.specs.declared.limits.Limits.{Limits}
 use Rattle.certificate_theory.specs.declared.refusal.Refusal.{Refusal}
 use Rattle.certificate_theory.specs.declared.refusal.Refusal.the-variants.{Length}
 use Rattle.certificate_theory.specs.Fields.{Field, kind, count, state, class, number, width, widths, fields}
-use Rattle.certificate_theory.specs.Reading.{RightContent, Right, AllRight, Reads, Fault, FieldRefused, SurplusRefused, ReadingRefused, is-right, first-of, fault, field-fault, first-fault, reading-fault}
+use Rattle.certificate_theory.specs.Reading.{RightContent, Right, AllRight, Reads, Fault, FieldRefused, SurplusRefused, ReadingRefused, is-right, first-of, fault, field-fault, first-fault, reading-fault, is-none, reads-whole}
 use Rattle.certificate_theory.proofs.Tests.{true-or-false, not-both, right-means, means-right}
 
 -- Answers of two tests in a row.
@@ -232,3 +232,14 @@ module _ (L : Limits) (bytes : List ℕ) where
       first-of-none (first-fault L bytes 0 (fields L bytes)) _ (right-none (fields L bytes) 0 (r .fields-right))
       ∙ ap (λ b. cond b (Some (Length (widths (fields L bytes)))) None) (lt-ltb (widths (fields L bytes)) (length bytes) (r .surplus))
       ∙ ap Some (sym (r .refused))
+
+-- a test that reading finds no fault
+pub whole-reads : (L : Limits) (bytes : List ℕ) → reads-whole L bytes ≡ true → Reads L bytes
+whole-reads L bytes h = by (reading-fault L bytes) refl h
+  where
+    by : (o : Option Refusal) → reading-fault L bytes ≡ o → is-none o ≡ true → Reads L bytes
+    by (Some e) is w = let z : _≡_ {A = ℕ} 0 1 = cc in absurd (let f : ⊥ = omega arith in f)
+    by None is w = fault-none L bytes is
+
+pub reads-are-whole : (L : Limits) (bytes : List ℕ) → Reads L bytes → reads-whole L bytes ≡ true
+reads-are-whole L bytes r = ap is-none (none-fault L bytes r)

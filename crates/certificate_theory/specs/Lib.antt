@@ -4,3 +4,4 @@ pub mod Reading
 pub mod Content
 pub mod Lists
 pub mod Judging
+pub mod Points

@@ -4,10 +4,13 @@ ghost use Rattle.certificate_theory.specs.Refusals.{number, placed};
 
 mod clause;
 mod limits;
+mod point;
 mod refusal;
 
 pub use clause::Clause;
 pub use limits::Limits;
+pub use point::Point;
+pub use point::Spot;
 pub use refusal::Place;
 pub use refusal::Refusal;
 
