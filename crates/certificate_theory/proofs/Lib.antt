@@ -5,3 +5,5 @@ pub mod Contents
 pub mod Loops
 pub mod Points
 pub mod Finds
+pub mod Spots
+pub mod Orderly

@@ -3,14 +3,19 @@ use mathlib.Core.Path.{_≡_}
 use mathlib.Core.Logic.{_⊎_}
 use mathlib.Core.List.{List, _∷_, _++_}
 use Prim.Native.Nat.{ℕ, _<_}
+use lib.ListN.{length, getD}
 use Rattle.std.specs.shelf.Lists.{Has}
+use Rattle.std.specs.declared.option.Option.the-variants.{Some, None}
+use Rattle.std.specs.declared.result.Result.{Result}
+use Rattle.std.specs.declared.result.Result.the-variants.{Ok, Err}
 use Rattle.system.specs.Justice.{FairSystem}
-use Rattle.rank.specs.Kinds.{Kind}
+use Rattle.rank.specs.Kinds.{Kind, kind-of}
 use Rattle.rank_rule.specs.Certificate.{Certificate, Listed}
 use Rattle.rank_rule.specs.Rule.{NoListedClashAt, SuccessorsListedAt, RowsExactAt, ClassesEnabledAt, RanksFallAt, MeetsRule}
 use Rattle.certificate_theory.specs.declared.clause.Clause.{Clause}
 use Rattle.certificate_theory.specs.declared.clause.Clause.the-variants.{StartListed, NoListedClash, SuccessorsListed, RowsExact, ClassesEnabled, RanksFall}
 use Rattle.certificate_theory.specs.declared.refusal.Refusal.{Refusal}
+use Rattle.certificate_theory.specs.declared.refusal.Refusal.the-variants.{Length, KindByte}
 use Rattle.certificate_theory.specs.Refusals.{broken, order}
 use Rattle.certificate_theory.specs.Reading.{Reads, ReadingRefused}
 use Rattle.certificate_theory.specs.Content.{limits-of, content}
@@ -58,3 +63,31 @@ abbrev pub Refused : Kind → FairSystem → List ℕ → Refusal → Type 0
 Refused K S bytes e =
     ReadingRefused (limits-of K S) bytes e
     ⊎ (Reads (limits-of K S) bytes × RuleRefused K S (content (limits-of K S) bytes) e)
+
+-- The right answer to the bytes: acceptance, or the one right refusal.
+abbrev pub Answered : {X : Type 0} → Kind → FairSystem → List ℕ → Result X Refusal → Type 0
+Answered K S bytes (Ok x) = Certifies K S bytes
+Answered K S bytes (Err e) = Refused K S bytes e
+
+-- The right answer of the rule to a certificate that was read.
+abbrev pub Judged : {X : Type 0} → Kind → FairSystem → Certificate → Result X Refusal → Type 0
+Judged K S C (Ok x) = MeetsRule K S C
+Judged K S C (Err e) = RuleRefused K S C e
+
+-- The bytes certify the system, with ranks of the kind that their kind byte stands for.
+pub record AcceptedCertificate (S : FairSystem) (bytes : List ℕ) : Type 0 where
+  pub kind : Kind
+  pub kind-byte : kind-of (getD bytes 0 0) ≡ Some kind
+  pub certifies : Certifies kind S bytes
+
+-- The one right refusal where the kind byte says the kind: it is missing; it stands for none; or it is the refusal of
+-- that kind.
+abbrev pub CertificateRefused : FairSystem → List ℕ → Refusal → Type 0
+CertificateRefused S bytes e =
+    ((length bytes ≡ 0) × (e ≡ Length 0))
+    ⊎ (((0 < length bytes) × (kind-of (getD bytes 0 0) ≡ None) × (e ≡ KindByte))
+    ⊎ ((0 < length bytes) × ((K : Kind) × (kind-of (getD bytes 0 0) ≡ Some K) × Refused K S bytes e)))
+
+abbrev pub CertificateAnswered : {X : Type 0} → FairSystem → List ℕ → Result X Refusal → Type 0
+CertificateAnswered S bytes (Ok x) = AcceptedCertificate S bytes
+CertificateAnswered S bytes (Err e) = CertificateRefused S bytes e

