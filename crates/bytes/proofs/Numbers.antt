@@ -5,8 +5,9 @@ use Prim.Native.Nat.{ℕ, suc, _+_, _-_, _*_, _/_, _%_, _^_, _≤_, _<_}
 use native.Mathlib.Omega.{arith}
 use native.Mathlib.Nat.{div-div-eq-div-mul, mod-eq-of-lt}
 use lib.Dec.{lit<}
+use borrow.Rule.Slice.PartMut.{putMid}
 use lib.ListN.{length, getD, take, drop, set}
-use Rattle.std.proofs.shelf.Lists.{getD-at, getD-append-add, drop-more, take-append-drop, set-append-right, length-take-le, set-at}
+use Rattle.std.proofs.shelf.Lists.{getD-at, getD-append-add, drop-more, drop-drop}
 use Rattle.std.proofs.shelf.Bits.{div-mul-add, mod-mul-add, div-add-mod', div-below}
 use Rattle.bytes.specs.Numbers.{number-at, encoded, overwritten, Bytes, Written-is-read, Read-is-written}
 
@@ -61,26 +62,10 @@ read-is-written bytes h at fits =
     (h at (omega arith)) (h (at + 1) (omega arith)) (h (at + 2) (omega arith)) (h (at + 3) (omega arith)) refl
     ∙ ap (take 4) (sym (four-there bytes at fits))
 
--- A place set behind a front.
-behind : (front rest : List ℕ) (at k v : ℕ) → length front ≡ at →
-    set (front ++ rest) (at + k) v ≡ front ++ set rest k v
-behind front rest at k v e =
-    set-append-right front rest at (at + k) v e (omega arith)
-    ∙ ap (λ i. front ++ set rest i v) (let q : at + k - at ≡ k = omega arith in q)
-
--- Four places set one after the other, behind a front.
-after-front : (front rest : List ℕ) (at x y z w a b c d : ℕ) → length front ≡ at →
-    set (set (set (set (front ++ (x ∷ y ∷ z ∷ w ∷ rest)) at a) (at + 1) b) (at + 2) c) (at + 3) d
-    ≡ front ++ (a ∷ b ∷ c ∷ d ∷ rest)
-after-front front rest at x y z w a b c d e =
-    ap (λ l. set (set (set l (at + 1) b) (at + 2) c) (at + 3) d) (set-at front x (y ∷ z ∷ w ∷ rest) a at e)
-    ∙ ap (λ l. set (set l (at + 2) c) (at + 3) d) (behind front (a ∷ y ∷ z ∷ w ∷ rest) at 1 b e)
-    ∙ ap (λ l. set l (at + 3) d) (behind front (a ∷ b ∷ z ∷ w ∷ rest) at 2 c e)
-    ∙ behind front (a ∷ b ∷ c ∷ w ∷ rest) at 3 d e
-
-pub four-set : (xs : List ℕ) (at a b c d : ℕ) → at + 4 ≤ length xs →
-    set (set (set (set xs at a) (at + 1) b) (at + 2) c) (at + 3) d ≡ take at xs ++ (a ∷ b ∷ c ∷ d ∷ drop (at + 4) xs)
-four-set xs at a b c d h =
-    ap (λ l. set (set (set (set l at a) (at + 1) b) (at + 2) c) (at + 3) d)
-    (sym (ap (λ l. take at xs ++ l) (sym (four-there xs at h)) ∙ take-append-drop at xs))
-    ∙ after-front (take at xs) (drop (at + 4) xs) at _ _ _ _ a b c d (length-take-le at xs (omega arith))
+-- Elements written over a part.
+pub in-the-middle : (xs : List ℕ) (at : ℕ) (part new : List ℕ) → new ≡ part →
+    putMid at (at + length part - at) xs new ≡ overwritten xs at part
+in-the-middle xs at part new e =
+    let w : at + length part - at ≡ length part = omega arith in
+    ap (λ k. putMid at k xs new) w ∙ ap (λ l. take at xs ++ (l ++ drop (length part) (drop at xs))) e
+    ∙ ap (λ l. take at xs ++ (part ++ l)) (drop-drop (length part) at xs)

@@ -1,7 +1,7 @@
 //! Unsigned numbers of four bytes, least byte first: reading one from bytes, and writing one into them.
 ghost use mathlib.Core.Bool.{cond};
 ghost use mathlib.Core.Path.{_≡_};
-ghost use Prim.Native.Nat.{_+_};
+ghost use Prim.Native.Nat.{_+_, _≤_};
 ghost use lib.Dec.{leb};
 ghost use lib.ListN.{length};
 ghost use Rattle.std.specs.declared.option.Option.the-variants.{Some, None};
@@ -26,11 +26,16 @@ pub fn put_number(out: &mut [u8], at: usize, number: u32) -> Option<usize>
     if at > out.len() || out.len() - at < 4 {
         return None;
     }
-    out[at] = (number % 256) as u8;
-    out[at + 1] = (number / 256 % 256) as u8;
-    out[at + 2] = (number / 65536 % 256) as u8;
-    out[at + 3] = (number / 16777216 % 256) as u8;
+    write_over(out, at, &number.to_le_bytes());
     Some(at + 4)
+}
+
+/// Writes `part` over as many bytes from `at` on.
+fn write_over(out: &mut [u8], at: usize, part: &[u8])
+    requires { ⌜ at + length (now part) ≤ length (now out) ⌝ }
+    ensures { λ _. ⌜ now (out .exit) ≡ overwritten (now (out .entry)) at (now (part .entry)) ⌝ }
+{
+    out[at..at + part.len()].copy_from_slice(part);
 }
 
 /// Wherever the bytes of a number stand, that number is read back.

@@ -1,5 +1,6 @@
 ghost use mathlib.Core.Path.{_≡_};
-ghost use lib.Bits.{bitOr};
+ghost use Prim.Native.Nat.{_/_, _^_, _<_};
+ghost use lib.Bits.{bitAnd, bitOr};
 ghost use Rattle.system.specs.Masks.{bit, masked};
 ghost use Rattle.system.specs.MaskLaws.{masked-lawful};
 use super::Region;
@@ -13,11 +14,19 @@ pub struct Mask<S> {
     pub mask: u64,
 }
 
+// The bit of the command, for one that has a bit.
+fn bit_of(mask: u64, command: u8) -> u64
+    requires { ⌜ command < 64 ⌝ }
+    ensures { λ r. ⌜ r ≡ bitAnd (mask / 2 ^ command) 1 ⌝ }
+{
+    (mask >> command) & 1
+}
+
 // Whether the bit of the command is set. From 64 upward there is none.
 fn is_set(mask: u64, command: u8) -> bool
     ensures { λ r. ⌜ r ≡ bit mask command ⌝ }
 {
-    command < 64 && (mask >> command) & 1 == 1
+    command < 64 && bit_of(mask, command) == 1
 }
 
 pub impl<S: System> System for Mask<S> as MaskSystem {
@@ -62,13 +71,20 @@ pub impl<S: System> System for Mask<S> as MaskSystem {
     }
 }
 
-/// The system under two masks, `below` first and `above` over it: it means the system under their union.
-pub fn pile<S: System>(inner: S, below: u64, above: u64) -> Mask<Mask<S>>
-    ensures held { λ r. ⌜ (r .inner .inner ≡ inner) × (r .inner .mask ≡ below) × (r .mask ≡ above) ⌝ }
-    ensures union { λ r. ⌜ masked (r .mask) (masked (r .inner .mask) (S·System .meaning (r .inner .inner))) ≡ masked (bitOr above below) (S·System .meaning inner) ⌝ }
+// Two layers over a system.
+fn layers<S: System>(inner: S, below: u64, above: u64) -> Mask<Mask<S>>
+    ensures { λ r. ⌜ (r .inner .inner ≡ inner) × (r .inner .mask ≡ below) × (r .mask ≡ above) ⌝ }
 {
     Mask {
         inner: Mask { inner, mask: below },
         mask: above,
     }
+}
+
+/// The system under two masks, `below` first and `above` over it: it means the system under their union.
+pub fn pile<S: System>(inner: S, below: u64, above: u64) -> Mask<Mask<S>>
+    ensures held { λ r. ⌜ (r .inner .inner ≡ inner) × (r .inner .mask ≡ below) × (r .mask ≡ above) ⌝ }
+    ensures union { λ r. ⌜ masked (r .mask) (masked (r .inner .mask) (S·System .meaning (r .inner .inner))) ≡ masked (bitOr above below) (S·System .meaning inner) ⌝ }
+{
+    layers(inner, below, above)
 }

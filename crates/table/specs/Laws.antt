@@ -14,17 +14,25 @@ use Rattle.system.specs.Justice.{FairSystem, Lawful}
 use Rattle.system.specs.declared.Region.{Region}
 use Rattle.system.specs.declared.Region.the-variants.{Idle}
 use Rattle.table.specs.declared.shape.Shape.{Shape}
-use Rattle.table.specs.Tables.{if-below, table-system}
+use Rattle.table.specs.Tables.{cell, if-below, table-system}
 
--- An entry that is asked for only where a test passes.
-cond-some : {A : Type 0} (b : Bool) (o : Option A) (t : A) → cond b o None ≡ Some t → (b ≡ true) × (o ≡ Some t)
-cond-some true o t e = (refl, e)
-cond-some false o t e = let z : _≡_ {A = ℕ} 0 1 = cc in absurd (let f : ⊥ = omega arith in f)
-
-if-below-some : (n : ℕ) (o : Option ℕ) (t : ℕ) → if-below n o ≡ Some t → t < n
-if-below-some n (Some u) t e =
-    let c = cond-some (ltb u n) (Some u) t e in let l = ltb-true u n (c .0) in let m = c .1 in let same : u ≡ t = cc in omega arith
+if-below-some : (n : ℕ) (o : Option ℕ) (t : ℕ) → if-below (λ u. u) n o ≡ Some t → (o ≡ Some t) × (t < n)
+if-below-some n (Some u) t e = by (ltb u n) refl e
+  where
+    by : (b : Bool) → ltb u n ≡ b → cond b (Some u) None ≡ Some t → (Some u ≡ Some t) × (t < n)
+    by true l f = let same : u ≡ t = cc in let below = ltb-true u n l in (f, omega arith)
+    by false l f = let z : _≡_ {A = ℕ} 0 1 = cc in absurd (let g : ⊥ = omega arith in g)
 if-below-some n None t e = let z : _≡_ {A = ℕ} 0 1 = cc in absurd (let f : ⊥ = omega arith in f)
+
+-- An entry of a table stands in a row and a column of it.
+cell-some : {A : Type 0} (xs : List (Option A)) (row rows column columns : ℕ) (a : A)
+    → cell xs row rows column columns None ≡ Some a → (row < rows) × (column < columns)
+cell-some xs row rows column columns a e = by (ltb row rows && ltb column columns) refl e
+  where
+    by : (b : Bool) → (ltb row rows && ltb column columns) ≡ b → cond b (getD xs (row * columns + column) None) None ≡ Some a
+        → (row < rows) × (column < columns)
+    by true l f = let c = and-parts (ltb row rows) (ltb column columns) l in (ltb-true row rows (c .0), ltb-true column columns (c .1))
+    by false l f = let z : _≡_ {A = ℕ} 0 1 = cc in absurd (let g : ⊥ = omega arith in g)
 
 cond-idle : (b : Bool) (r : Region) → b ≡ false → cond b r Idle ≡ Idle
 cond-idle true r e = let z : _≡_ {A = ℕ} 0 1 = cc in absurd (let f : ⊥ = omega arith in f)
@@ -43,13 +51,13 @@ table-lawful h successors classed regions = record {
     few-states = h .starts .0;
     start-below = h .starts .1;
     next-below = λ s k t e.
-        let c = cond-some (ltb s (h .states) && ltb k (h .commands)) (if-below (h .states) (getD successors (s * h .commands + k) None)) t e in
-        let b = and-parts (ltb s (h .states)) (ltb k (h .commands)) (c .0) in
-        (ltb-true s (h .states) (b .0), ltb-true k (h .commands) (b .1), if-below-some (h .states) _ t (c .1));
+        let b = if-below-some (h .states) _ t e in
+        let c = cell-some successors s (h .states) k (h .commands) t (b .0) in
+        (c .0, c .1, b .1);
     region-outside = λ s p o. cond-idle _ _ (outside s (h .states) p (h .processes) o);
   };
   few-classes = h .few .2;
   class-below = λ k j e.
-      let c = cond-some (ltb k (h .commands)) (if-below (h .classes) (getD classed k None)) j e in
-      (ltb-true k (h .commands) (c .0), if-below-some (h .classes) _ j (c .1));
+      let b = if-below-some (h .classes) _ j e in
+      (cell-some classed 0 1 k (h .commands) j (b .0) .1, b .1);
 }

@@ -3,10 +3,11 @@ ghost use mathlib.Core.Path.{_≡_};
 ghost use Prim.Native.Nat.{ℕ, _+_, _*_, _≤_, _<_};
 ghost use denote.Ref.{now as at};
 ghost use Rattle.std.specs.declared.option.Option.the-variants.{Some, None};
-ghost use lib.Dec.{T, eqb};
-ghost use lib.ListN.{length, getD};
+ghost use lib.Dec.{ltb, eqb};
+ghost use Rattle.std.specs.Orderings.{Decides};
+ghost use lib.ListN.{length};
 ghost use mathlib.Core.Bool.{_&&_};
-ghost use Rattle.table.specs.Tables.{EachBelow, WellFormed, table-system};
+ghost use Rattle.table.specs.Tables.{cell, if-below, EachBelow, WellFormed, table-system};
 ghost use Rattle.table.specs.Laws.{table-lawful};
 
 mod arrays;
@@ -17,14 +18,37 @@ pub use shape::Shape;
 use system::Region;
 use system::System;
 
+// What an entry holds: a number that can be held against a bound.
+trait Number: Copy {
+    ghost number: { Self → ℕ };
+
+    fn is_below(self, bound: Self) -> bool
+        ensures { λ r. ⌜ r ≡ ltb (number self) (number bound) ⌝ };
+}
+
+impl Number for u8 as ByteNumber {
+    ghost number = { λ n. n };
+
+    fn is_below(self, bound: u8) -> bool {
+        self < bound
+    }
+}
+
+impl Number for u32 as WordNumber {
+    ghost number = { λ n. n };
+
+    fn is_below(self, bound: u32) -> bool {
+        self < bound
+    }
+}
+
 // Whether every number in the list is below `bound`.
-fn states_below(list: &[Option<u32>], bound: u32) -> bool
-    ensures only { λ r. ⌜ (T r → EachBelow (now (list .entry)) bound) ⌝ }
-    ensures all { λ r. ⌜ (EachBelow (now (list .entry)) bound → T r) ⌝ }
+fn each_below<N: Number>(list: &[Option<N>], bound: N) -> bool
+    ensures { λ r. ⌜ Decides r (EachBelow number (now (list .entry)) (number bound)) ⌝ }
 {
     for e in list {
-        if let Some(t) = *e {
-            if t >= bound {
+        if let Some(n) = *e {
+            if !n.is_below(bound) {
                 return false;
             }
         }
@@ -42,41 +66,39 @@ fn right_lengths(table: &Table) -> bool
         && table.regions.len() == states * table.shape.processes as usize
 }
 
-// The entry at `i`, or `missing` past the end.
-fn entry<T: Copy>(list: &[T], i: usize, missing: T) -> T
-    ensures { λ r. ⌜ r ≡ getD (now (list .entry)) i missing ⌝ }
+// The entry in a row and a column of a table of so many rows and columns, or `missing`.
+fn cell_at<T: Copy>(list: &[T], row: u32, rows: u32, column: u8, columns: u8, missing: T) -> T
+    ensures { λ r. ⌜ r ≡ cell (now (list .entry)) row rows column columns missing ⌝ }
 {
+    if row >= rows || column >= columns {
+        return missing;
+    }
+    let i = row as usize * columns as usize + column as usize;
     if i < list.len() { list[i] } else { missing }
 }
 
-// Whether every number in the list is below `bound`.
-fn classes_below(list: &[Option<u8>], bound: u8) -> bool
-    ensures only { λ r. ⌜ (T r → EachBelow (now (list .entry)) bound) ⌝ }
-    ensures all { λ r. ⌜ (EachBelow (now (list .entry)) bound → T r) ⌝ }
+// The entry itself where its number is below `bound`, else none.
+fn kept_below<N: Number>(entry: Option<N>, bound: N) -> Option<N>
+    ensures { λ r. ⌜ r ≡ if-below number (number bound) entry ⌝ }
 {
-    for e in list {
-        if let Some(t) = *e {
-            if t >= bound {
-                return false;
-            }
-        }
+    match entry {
+        Some(n) if n.is_below(bound) => Some(n),
+        _ => None,
     }
-    true
 }
 
 impl<'a> Table<'a> {
     /// Whether the arrays are well formed: one entry for each question, and no number out of range.
     pub fn is_well_formed(&self) -> bool
-        ensures only { λ r. ⌜ (T r → WellFormed (now (self .entry) .shape) (at (now (self .entry) .successors)) (at (now (self .entry) .classed)) (at (now (self .entry) .regions))) ⌝ }
-        ensures all { λ r. ⌜ (WellFormed (now (self .entry) .shape) (at (now (self .entry) .successors)) (at (now (self .entry) .classed)) (at (now (self .entry) .regions)) → T r) ⌝ }
+        ensures { λ r. ⌜ Decides r (WellFormed (now (self .entry) .shape) (at (now (self .entry) .successors)) (at (now (self .entry) .classed)) (at (now (self .entry) .regions))) ⌝ }
     {
         if !right_lengths(self) {
             return false;
         }
-        if !states_below(self.successors, self.shape.states) {
+        if !each_below(self.successors, self.shape.states) {
             return false;
         }
-        classes_below(self.classed, self.shape.classes)
+        each_below(self.classed, self.shape.classes)
     }
 }
 
@@ -106,34 +128,30 @@ pub impl<'a> System for Table<'a> as TableSystem {
     }
 
     fn successor(&self, state: u32, command: u8) -> Option<u32> {
-        if state < self.shape.states && command < self.shape.commands {
-            let i = state as usize * self.shape.commands as usize + command as usize;
-            match entry(self.successors, i, None) {
-                Some(t) if t < self.shape.states => Some(t),
-                _ => None,
-            }
-        } else {
-            None
-        }
+        let t = cell_at(
+            self.successors,
+            state,
+            self.shape.states,
+            command,
+            self.shape.commands,
+            None,
+        );
+        kept_below(t, self.shape.states)
     }
 
     fn class_of(&self, command: u8) -> Option<u8> {
-        if command < self.shape.commands {
-            match entry(self.classed, command as usize, None) {
-                Some(j) if j < self.shape.classes => Some(j),
-                _ => None,
-            }
-        } else {
-            None
-        }
+        let j = cell_at(self.classed, 0, 1, command, self.shape.commands, None);
+        kept_below(j, self.shape.classes)
     }
 
     fn region(&self, state: u32, process: u8) -> Region {
-        if state < self.shape.states && process < self.shape.processes {
-            let i = state as usize * self.shape.processes as usize + process as usize;
-            entry(self.regions, i, Region::Idle)
-        } else {
-            Region::Idle
-        }
+        cell_at(
+            self.regions,
+            state,
+            self.shape.states,
+            process,
+            self.shape.processes,
+            Region::Idle,
+        )
     }
 }

@@ -1,10 +1,11 @@
-use mathlib.Core.Path.{_≡_, sym, _∙_}
+use mathlib.Core.Path.{_≡_, sym, ap, _∙_}
+use lib.Dec.{eqb}
 use Rattle.std.proofs.shelf.Tests.{le-ltb}
 use Rattle.system.proofs.Masks.{bit-shifted, bit-beyond}
 use Rattle.system.proofs.mask.is_set.Needs as need
 
 pub returns-then-command-lt64 : need.returns-then-command-lt64
-returns-then-command-lt64 c = bit-shifted (c .args .mask) (c .args .command)
+returns-then-command-lt64 c = ap (λ b. eqb b 1) (c .bit-of .ensures) ∙ bit-shifted (c .args .mask) (c .args .command)
 
 pub returns-else-command-lt64 : need.returns-else-command-lt64
 returns-else-command-lt64 c =

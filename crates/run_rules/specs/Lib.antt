@@ -1,0 +1,5 @@
+pub mod Layout
+pub mod Causes
+pub mod Reading
+pub mod Judging
+pub mod Claims
