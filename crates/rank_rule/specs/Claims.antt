@@ -2,6 +2,7 @@
 use Prim.Native.Nat.{ℕ}
 use Rattle.system.specs.Runs.{Run, LeavesTrying}
 use Rattle.system.specs.Justice.{FairSystem, Lawful, Just, CorrectLock}
+use Rattle.lasso.specs.BadRuns.{BadRun}
 use Rattle.rank.specs.Kinds.{Kind}
 use Rattle.rank.specs.Laws.{LawfulKind}
 use Rattle.rank_rule.specs.Certificate.{Certificate}
@@ -21,3 +22,7 @@ Rows-keep-out-lockout K =
     (S : FairSystem) → Lawful S → (C : Certificate) → StartListed S C → SuccessorsListed S C →
     (p : ℕ) → RowsExact S C p → ClassesEnabled S C p → RanksFall K S C p →
     (r : Run (S .steps)) → Just S r → ¬ LeavesTrying r p
+
+-- A certificate that meets the rule and a bad run are never both there for one system.
+abbrev pub Never-both : Type 0
+Never-both = (K : Kind) → LawfulKind K → (S : FairSystem) → Lawful S → (C : Certificate) → MeetsRule K S C → ¬ BadRun S

@@ -1,5 +1,5 @@
 //! The rank rule for certificates, and what it shows of a lock.
-ghost use Rattle.rank_rule.specs.Claims.{Certified-is-correct, Rank-rule-is-sound, Rows-keep-out-lockout};
+ghost use Rattle.rank_rule.specs.Claims.{Certified-is-correct, Rank-rule-is-sound, Rows-keep-out-lockout, Never-both};
 use rank::Rank;
 
 /// For every kind of rank with its laws and every lawful system: a certificate that meets the rule shows that no run
@@ -20,6 +20,14 @@ pub fn certified_is_correct<R: Rank>() -> u8
 /// The rows of one process alone keep every just run from leaving it trying for ever.
 pub fn rows_keep_out_lockout<R: Rank>() -> u8
     ensures { λ _. ⌜ Rows-keep-out-lockout kind ⌝ }
+{
+    0
+}
+
+/// For one lawful system a certificate that meets the rule, of any kind with its laws, and a bad run are never both
+/// there.
+pub fn never_both() -> u8
+    ensures { λ _. ⌜ Never-both ⌝ }
 {
     0
 }
