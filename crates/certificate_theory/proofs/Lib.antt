@@ -1,0 +1,9 @@
+pub mod Tests
+pub mod Scans
+pub mod Entries
+pub mod Contents
+pub mod Loops
+pub mod Points
+pub mod Finds
+pub mod Spots
+pub mod Orderly

@@ -1,0 +1,8 @@
+pub mod Refusals
+pub mod Fields
+pub mod Reading
+pub mod Content
+pub mod Lists
+pub mod Judging
+pub mod Points
+pub mod Claims

@@ -1,0 +1,117 @@
+//! Certificates as bytes: their fields, what they say, and the one right answer to each.
+ghost use mathlib.Core.Path.{_≡_};
+ghost use Rattle.certificate_theory.specs.Claims.{One-refusal, Accepted-or-refused, Certified-is-correct};
+ghost use Rattle.certificate_theory.specs.Refusals.{number, placed};
+
+mod clause;
+mod limits;
+mod point;
+mod refusal;
+
+pub use clause::Clause;
+pub use limits::Limits;
+pub use point::Point;
+pub use point::Spot;
+pub use refusal::Place;
+pub use refusal::Refusal;
+
+impl Refusal {
+    /// The answer number.
+    pub fn number(self) -> u8
+        ensures { λ r. ⌜ r ≡ number self ⌝ }
+    {
+        match self {
+            Refusal::Length { at: _ } => 21,
+            Refusal::KindByte => 22,
+            Refusal::State { at: _ } => 23,
+            Refusal::Class { at: _ } => 24,
+            Refusal::StartUnlisted { state: _ } => 25,
+            Refusal::ListedClash { state: _ } => 26,
+            Refusal::SuccessorUnlisted {
+                state: _,
+                command: _,
+            } => 27,
+            Refusal::RowsDiffer {
+                process: _,
+                state: _,
+            } => 28,
+            Refusal::ClassDisabled {
+                process: _,
+                state: _,
+            } => 29,
+            Refusal::RankRule {
+                process: _,
+                state: _,
+                command: _,
+            } => 30,
+        }
+    }
+
+    /// The place, with 0 for each part that the refusal does not name.
+    pub fn place(self) -> Place
+        ensures { λ r. ⌜ r ≡ placed self ⌝ }
+    {
+        match self {
+            Refusal::KindByte => Place {
+                process: 0,
+                index: 0,
+                command: 0,
+            },
+            Refusal::Length { at } | Refusal::State { at } | Refusal::Class { at } => Place {
+                process: 0,
+                index: at,
+                command: 0,
+            },
+            Refusal::StartUnlisted { state } | Refusal::ListedClash { state } => {
+                Place {
+                    process: 0,
+                    index: state as usize,
+                    command: 0,
+                }
+            }
+            Refusal::SuccessorUnlisted { state, command } => Place {
+                process: 0,
+                index: state as usize,
+                command,
+            },
+            Refusal::RowsDiffer { process, state } | Refusal::ClassDisabled { process, state } => {
+                Place {
+                    process,
+                    index: state as usize,
+                    command: 0,
+                }
+            }
+            Refusal::RankRule {
+                process,
+                state,
+                command,
+            } => Place {
+                process,
+                index: state as usize,
+                command,
+            },
+        }
+    }
+}
+
+/// At most one refusal is right.
+pub fn one_refusal() -> u8
+    ensures { λ _. ⌜ One-refusal ⌝ }
+{
+    0
+}
+
+/// Bytes that certify a system are not refused.
+pub fn accepted_or_refused() -> u8
+    ensures { λ _. ⌜ Accepted-or-refused ⌝ }
+{
+    0
+}
+
+/// For every lawful system and every kind of rank with its laws, bytes that certify the system show that no run reaches
+/// a clash and that no just run leaves a process trying for ever.
+pub fn certified_is_correct() -> u8
+    ensures { λ _. ⌜ Certified-is-correct ⌝ }
+{
+    0
+}

@@ -1,0 +1,24 @@
+//! A certificate and a bad run against one system.
+ghost use mathlib.Core.Path.{_≡_};
+ghost use Rattle.std.specs.declared.result.Result.the-variants.{Ok};
+use certificate_check::check_certificate;
+use certificate_theory::Refusal;
+use run_check::check_run;
+use run_refusal::RunRefusal;
+use system::System;
+
+/// The answers to a certificate and to a run.
+pub struct Answers {
+    pub certificate: Result<(), Refusal>,
+    pub run: Result<(), RunRefusal>,
+}
+
+/// Checks a certificate and a run against one system. They are never both accepted.
+pub fn check_both<S: System>(system: &S, certificate: &[u8], run: &[u8]) -> Answers
+    ensures { λ r. ⌜ (r .certificate ≡ Ok tt → r .run ≡ Ok tt → ⊥) ⌝ }
+{
+    Answers {
+        certificate: check_certificate(system, certificate),
+        run: check_run(system, run),
+    }
+}
