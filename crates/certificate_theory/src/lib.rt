@@ -95,23 +95,17 @@ impl Refusal {
 }
 
 /// At most one refusal is right.
-pub fn one_refusal() -> u8
+pub fn one_refusal()
     ensures { λ _. ⌜ One-refusal ⌝ }
-{
-    0
-}
+{}
 
 /// Bytes that certify a system are not refused.
-pub fn accepted_or_refused() -> u8
+pub fn accepted_or_refused()
     ensures { λ _. ⌜ Accepted-or-refused ⌝ }
-{
-    0
-}
+{}
 
 /// For every lawful system and every kind of rank with its laws, bytes that certify the system show that no run reaches
 /// a clash and that no just run leaves a process trying for ever.
-pub fn certified_is_correct() -> u8
+pub fn certified_is_correct()
     ensures { λ _. ⌜ Certified-is-correct ⌝ }
-{
-    0
-}
+{}

@@ -9,23 +9,17 @@ pub enum Kind {
 }
 
 /// At most one refusal is right for given bytes.
-pub fn one_right_refusal() -> u8
+pub fn one_right_refusal()
     ensures { λ _. ⌜ One-right-refusal ⌝ }
-{
-    0
-}
+{}
 
 /// No refusal is right for the bytes of a bad run.
-pub fn bad_bytes_are_not_refused() -> u8
+pub fn bad_bytes_are_not_refused()
     ensures { λ _. ⌜ Bad-bytes-are-not-refused ⌝ }
-{
-    0
-}
+{}
 
 /// The bytes of a clash give a run that reaches a clash, those of a lockout a just run that leaves the process of
 /// their process byte trying for ever.
-pub fn bad_bytes_condemn() -> u8
+pub fn bad_bytes_condemn()
     ensures { λ _. ⌜ Bad-bytes-condemn ⌝ }
-{
-    0
-}
+{}
