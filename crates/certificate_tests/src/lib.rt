@@ -29,14 +29,53 @@ mod tests {
     }
 
     // One process: idle, try, crit and back. Class 0 has the last two commands, class 1 none.
-    const RING_SUCCESSORS: [Option<u32>; 9] = [Some(1), None, None, None, Some(2), None, None, None, Some(0)];
+    const RING_SUCCESSORS: [Option<u32>; 9] = [
+        Some(1),
+        None,
+        None,
+        None,
+        Some(2),
+        None,
+        None,
+        None,
+        Some(0),
+    ];
 
     const RING_CLASSES: [Option<u8>; 3] = [None, Some(0), Some(0)];
 
     const RING_REGIONS: [Region; 3] = [Region::Idle, Region::Try, Region::Crit];
 
     const RING: [u8; 30] = [
-        1, 3, 0, 0, 0, 0, 0, 0, 0, 1, 0, 0, 0, 2, 0, 0, 0, 1, 0, 0, 0, 1, 0, 0, 0, 0, 0, 0, 0, 0,
+        1,
+        3,
+        0,
+        0,
+        0,
+        0,
+        0,
+        0,
+        0,
+        1,
+        0,
+        0,
+        0,
+        2,
+        0,
+        0,
+        0,
+        1,
+        0,
+        0,
+        0,
+        1,
+        0,
+        0,
+        0,
+        0,
+        0,
+        0,
+        0,
+        0,
     ];
 
     // The indices at which the fields of that certificate begin.
@@ -69,7 +108,40 @@ mod tests {
         check_eq(ring(1, &RING), (0, 0, 0, 0))?;
         check_eq(ring(2, &RING), (0, 0, 0, 0))?;
         let pairs = [
-            2u8, 3, 0, 0, 0, 0, 0, 0, 0, 1, 0, 0, 0, 2, 0, 0, 0, 1, 0, 0, 0, 1, 0, 0, 0, 0, 0, 0, 0, 0, 9, 0, 0, 0,
+            2u8,
+            3,
+            0,
+            0,
+            0,
+            0,
+            0,
+            0,
+            0,
+            1,
+            0,
+            0,
+            0,
+            2,
+            0,
+            0,
+            0,
+            1,
+            0,
+            0,
+            0,
+            1,
+            0,
+            0,
+            0,
+            0,
+            0,
+            0,
+            0,
+            0,
+            9,
+            0,
+            0,
+            0,
         ];
         check_eq(ring(1, &pairs), (0, 0, 0, 0))?;
         check_eq(ring(1, &pairs[0..33]), (21, 0, 30, 0))
@@ -86,8 +158,14 @@ mod tests {
             classed: &RING_CLASSES,
             regions: &RING_REGIONS,
         };
-        check_eq(told(check_certificate_of::<Single, Table>(&lock, &RING)), (0, 0, 0, 0))?;
-        check_eq(told(check_certificate_of::<Pair, Table>(&lock, &RING)), (22, 0, 0, 0))
+        check_eq(
+            told(check_certificate_of::<Single, Table>(&lock, &RING)),
+            (0, 0, 0, 0),
+        )?;
+        check_eq(
+            told(check_certificate_of::<Pair, Table>(&lock, &RING)),
+            (22, 0, 0, 0),
+        )
     }
 
     #[test]
@@ -124,17 +202,152 @@ mod tests {
     #[test]
     fn surplus_and_clauses_are_told() -> Result<(), Fail> {
         let surplus = [
-            1u8, 3, 0, 0, 0, 0, 0, 0, 0, 1, 0, 0, 0, 2, 0, 0, 0, 1, 0, 0, 0, 1, 0, 0, 0, 0, 0, 0, 0, 0, 1,
+            1u8,
+            3,
+            0,
+            0,
+            0,
+            0,
+            0,
+            0,
+            0,
+            1,
+            0,
+            0,
+            0,
+            2,
+            0,
+            0,
+            0,
+            1,
+            0,
+            0,
+            0,
+            1,
+            0,
+            0,
+            0,
+            0,
+            0,
+            0,
+            0,
+            0,
+            1,
         ];
         check_eq(ring(1, &surplus), (21, 0, 30, 0))?;
-        let unlisted = [1u8, 2, 0, 0, 0, 0, 0, 0, 0, 1, 0, 0, 0, 1, 0, 0, 0, 1, 0, 0, 0, 0, 0, 0, 0, 0];
+        let unlisted = [
+            1u8,
+            2,
+            0,
+            0,
+            0,
+            0,
+            0,
+            0,
+            0,
+            1,
+            0,
+            0,
+            0,
+            1,
+            0,
+            0,
+            0,
+            1,
+            0,
+            0,
+            0,
+            0,
+            0,
+            0,
+            0,
+            0,
+        ];
         check_eq(ring(1, &unlisted), (27, 0, 1, 1))?;
-        let started = [1u8, 2, 0, 0, 0, 1, 0, 0, 0, 2, 0, 0, 0, 1, 0, 0, 0, 1, 0, 0, 0, 0, 0, 0, 0, 0];
+        let started = [
+            1u8,
+            2,
+            0,
+            0,
+            0,
+            1,
+            0,
+            0,
+            0,
+            2,
+            0,
+            0,
+            0,
+            1,
+            0,
+            0,
+            0,
+            1,
+            0,
+            0,
+            0,
+            0,
+            0,
+            0,
+            0,
+            0,
+        ];
         check_eq(ring(1, &started), (25, 0, 0, 0))?;
-        let rowless = [1u8, 3, 0, 0, 0, 0, 0, 0, 0, 1, 0, 0, 0, 2, 0, 0, 0, 0, 0, 0, 0];
+        let rowless = [
+            1u8,
+            3,
+            0,
+            0,
+            0,
+            0,
+            0,
+            0,
+            0,
+            1,
+            0,
+            0,
+            0,
+            2,
+            0,
+            0,
+            0,
+            0,
+            0,
+            0,
+            0,
+        ];
         check_eq(ring(1, &rowless), (28, 0, 1, 0))?;
         let disabled = [
-            1u8, 3, 0, 0, 0, 0, 0, 0, 0, 1, 0, 0, 0, 2, 0, 0, 0, 1, 0, 0, 0, 1, 0, 0, 0, 1, 0, 0, 0, 0,
+            1u8,
+            3,
+            0,
+            0,
+            0,
+            0,
+            0,
+            0,
+            0,
+            1,
+            0,
+            0,
+            0,
+            2,
+            0,
+            0,
+            0,
+            1,
+            0,
+            0,
+            0,
+            1,
+            0,
+            0,
+            0,
+            1,
+            0,
+            0,
+            0,
+            0,
         ];
         check_eq(ring(2, &disabled), (29, 0, 1, 0))
     }
@@ -165,17 +378,103 @@ mod tests {
         let [c, d] = classes;
         let [a, b, e, f] = ranks;
         [
-            1, 2, 0, 0, 0, 0, 0, 0, 0, 1, 0, 0, 0, 2, 0, 0, 0, 0, 0, 0, 0, c, a, 0, 0, 0, 1, 0, 0, 0, c, b, 0, 0, 0, 2, 0, 0, 0, 0, 0, 0, 0,
-            d, e, 0, 0, 0, 1, 0, 0, 0, d, f, 0, 0, 0,
+            1,
+            2,
+            0,
+            0,
+            0,
+            0,
+            0,
+            0,
+            0,
+            1,
+            0,
+            0,
+            0,
+            2,
+            0,
+            0,
+            0,
+            0,
+            0,
+            0,
+            0,
+            c,
+            a,
+            0,
+            0,
+            0,
+            1,
+            0,
+            0,
+            0,
+            c,
+            b,
+            0,
+            0,
+            0,
+            2,
+            0,
+            0,
+            0,
+            0,
+            0,
+            0,
+            0,
+            d,
+            e,
+            0,
+            0,
+            0,
+            1,
+            0,
+            0,
+            0,
+            d,
+            f,
+            0,
+            0,
+            0,
         ]
     }
 
     #[test]
     fn ranks_must_fall() -> Result<(), Fail> {
-        check_eq(pair_of_states(&TRYING, &rows([0, 0], [0, 0, 0, 0])), (30, 0, 0, 0))?;
-        check_eq(pair_of_states(&TRYING, &rows([0, 0], [1, 0, 0, 0])), (30, 0, 1, 1))?;
-        check_eq(pair_of_states(&TRYING, &rows([0, 1], [0, 0, 0, 0])), (29, 1, 0, 0))?;
-        let clash = [1u8, 2, 0, 0, 0, 0, 0, 0, 0, 1, 0, 0, 0, 0, 0, 0, 0, 0, 0, 0, 0];
+        check_eq(
+            pair_of_states(&TRYING, &rows([0, 0], [0, 0, 0, 0])),
+            (30, 0, 0, 0),
+        )?;
+        check_eq(
+            pair_of_states(&TRYING, &rows([0, 0], [1, 0, 0, 0])),
+            (30, 0, 1, 1),
+        )?;
+        check_eq(
+            pair_of_states(&TRYING, &rows([0, 1], [0, 0, 0, 0])),
+            (29, 1, 0, 0),
+        )?;
+        let clash = [
+            1u8,
+            2,
+            0,
+            0,
+            0,
+            0,
+            0,
+            0,
+            0,
+            1,
+            0,
+            0,
+            0,
+            0,
+            0,
+            0,
+            0,
+            0,
+            0,
+            0,
+            0,
+        ];
         check_eq(pair_of_states(&MEETING, &clash), (26, 0, 1, 0))?;
         check_eq(pair_of_states(&TRYING, &clash), (28, 0, 0, 0))
     }
@@ -183,8 +482,49 @@ mod tests {
     #[test]
     fn the_number_comes_before_the_process() -> Result<(), Fail> {
         let disabled_then_rowless = [
-            1u8, 2, 0, 0, 0, 0, 0, 0, 0, 1, 0, 0, 0, 2, 0, 0, 0, 0, 0, 0, 0, 1, 0, 0, 0, 0, 1, 0, 0, 0, 1, 0, 0, 0, 0, 0, 0, 0, 0,
+            1u8,
+            2,
+            0,
+            0,
+            0,
+            0,
+            0,
+            0,
+            0,
+            1,
+            0,
+            0,
+            0,
+            2,
+            0,
+            0,
+            0,
+            0,
+            0,
+            0,
+            0,
+            1,
+            0,
+            0,
+            0,
+            0,
+            1,
+            0,
+            0,
+            0,
+            1,
+            0,
+            0,
+            0,
+            0,
+            0,
+            0,
+            0,
+            0,
         ];
-        check_eq(pair_of_states(&TRYING, &disabled_then_rowless), (28, 1, 0, 0))
+        check_eq(
+            pair_of_states(&TRYING, &disabled_then_rowless),
+            (28, 1, 0, 0),
+        )
     }
 }
