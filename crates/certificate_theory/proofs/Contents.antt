@@ -14,7 +14,7 @@ use Rattle.certificate_theory.specs.Fields.{list-end}
 use Rattle.certificate_theory.specs.Content.{row-at, rows-at, row-lists-at, content, list-start, rows-start}
 use Rattle.certificate_theory.proofs.Entries.{entry-after, start-after}
 
-length-numbers : (bytes : List ℕ) (n at : ℕ) → length (numbers-at bytes at n) ≡ n
+pub length-numbers : (bytes : List ℕ) (n at : ℕ) → length (numbers-at bytes at n) ≡ n
 length-numbers bytes zero at = refl
 length-numbers bytes (suc n) at = let h = length-numbers bytes n (at + 4) in omega arith
 
@@ -23,7 +23,7 @@ number-of bytes zero at i d h = absurd (omega arith)
 number-of bytes (suc n) at zero d h = ap (number-at bytes) (let e : at ≡ at + 4 * zero = omega arith in e)
 number-of bytes (suc n) at (suc i) d h = number-of bytes n (at + 4) i d (omega arith) ∙ ap (number-at bytes) (entry-after 4 at i)
 
-length-rows : (n : ℕ) (bytes : List ℕ) (m at : ℕ) → length (rows-at n bytes at m) ≡ m
+pub length-rows : (n : ℕ) (bytes : List ℕ) (m at : ℕ) → length (rows-at n bytes at m) ≡ m
 length-rows n bytes zero at = refl
 length-rows n bytes (suc m) at = let h = length-rows n bytes m (at + (5 + 4 * n)) in omega arith
 

@@ -7,3 +7,4 @@ pub mod Points
 pub mod Finds
 pub mod Spots
 pub mod Orderly
+pub mod Writing

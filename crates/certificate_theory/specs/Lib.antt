@@ -5,4 +5,5 @@ pub mod Content
 pub mod Lists
 pub mod Judging
 pub mod Points
+pub mod Encoding
 pub mod Claims

@@ -1,6 +1,6 @@
 //! Certificates as bytes: their fields, what they say, and the one right answer to each.
 ghost use mathlib.Core.Path.{_≡_};
-ghost use Rattle.certificate_theory.specs.Claims.{One-refusal, Accepted-or-refused, Certified-is-correct};
+ghost use Rattle.certificate_theory.specs.Claims.{One-refusal, Accepted-or-refused, Certified-is-correct, Read-is-written};
 ghost use Rattle.certificate_theory.specs.Refusals.{number, placed};
 
 mod clause;
@@ -108,4 +108,9 @@ pub fn accepted_or_refused()
 /// a clash and that no just run leaves a process trying for ever.
 pub fn certified_is_correct()
     ensures { λ _. ⌜ Certified-is-correct ⌝ }
+{}
+
+/// Bytes that read as a certificate are the bytes of what they say.
+pub fn read_is_written()
+    ensures { λ _. ⌜ Read-is-written ⌝ }
 {}
