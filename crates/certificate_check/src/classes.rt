@@ -60,7 +60,7 @@ fn row_is_marked<R: Rank>(view: &View, process: u8, state: u32, marks: &[bool]) 
 }
 
 // The class of each row is enabled at its state.
-pub fn class_failure<R: Rank, S: System>(
+pub(crate) fn class_failure<R: Rank, S: System>(
     system: &S,
     view: &View,
     state: u32,

@@ -14,7 +14,7 @@ use system::System;
 use system::is_clash;
 
 // Whether the process waits in the state.
-pub fn waits<S: System>(system: &S, process: u8, state: u32) -> bool
+pub(crate) fn waits<S: System>(system: &S, process: u8, state: u32) -> bool
     ensures { λ r. ⌜ Decides r (Waits (meaning (now (system .entry)) .steps) process state) ⌝ }
 {
     match system.region(state, process) {
@@ -24,7 +24,12 @@ pub fn waits<S: System>(system: &S, process: u8, state: u32) -> bool
 }
 
 // The start is in the state list.
-pub fn start_failure<S: System>(system: &S, view: &View, state: u32, limit: u8) -> Option<Spot>
+pub(crate) fn start_failure<S: System>(
+    system: &S,
+    view: &View,
+    state: u32,
+    limit: u8,
+) -> Option<Spot>
     ensures { λ r. ⌜ LeastSpot (λ p k. state ≡ meaning (now (system .entry)) .steps .start → Listed (certificate-of (now (view .entry))) state) limit r ⌝ }
 {
     if limit == 0 || state != system.start() {
@@ -41,7 +46,12 @@ pub fn start_failure<S: System>(system: &S, view: &View, state: u32, limit: u8) 
 }
 
 // A listed state is no clash.
-pub fn clash_failure<S: System>(system: &S, view: &View, state: u32, limit: u8) -> Option<Spot>
+pub(crate) fn clash_failure<S: System>(
+    system: &S,
+    view: &View,
+    state: u32,
+    limit: u8,
+) -> Option<Spot>
     ensures { λ r. ⌜ LeastSpot (λ p k. NoListedClashAt (meaning (now (system .entry))) (certificate-of (now (view .entry))) state) limit r ⌝ }
 {
     if limit == 0 || !view.is_listed(state) {
@@ -68,7 +78,12 @@ fn successor_is_listed<S: System>(system: &S, view: &View, state: u32, command: 
 }
 
 // The successors of a listed state are listed.
-pub fn successor_failure<S: System>(system: &S, view: &View, state: u32, limit: u8) -> Option<Spot>
+pub(crate) fn successor_failure<S: System>(
+    system: &S,
+    view: &View,
+    state: u32,
+    limit: u8,
+) -> Option<Spot>
     ensures { λ r. ⌜ LeastSpot (λ p k. SuccessorsListedAt (meaning (now (system .entry))) (certificate-of (now (view .entry))) state k) limit r ⌝ }
 {
     if limit == 0 {
@@ -97,7 +112,12 @@ fn row_is_exact<S: System>(system: &S, view: &View, process: u8, state: u32) -> 
 }
 
 // The rows are the listed states where their process waits.
-pub fn rows_failure<S: System>(system: &S, view: &View, state: u32, limit: u8) -> Option<Spot>
+pub(crate) fn rows_failure<S: System>(
+    system: &S,
+    view: &View,
+    state: u32,
+    limit: u8,
+) -> Option<Spot>
     ensures { λ r. ⌜ LeastSpot (λ p k. RowsExactAt (meaning (now (system .entry))) (certificate-of (now (view .entry))) p state) limit r ⌝ }
 {
     for process in 0..limit {

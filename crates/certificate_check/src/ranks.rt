@@ -112,7 +112,7 @@ fn process_failure<R: Rank, S: System>(
 }
 
 // Ranks fall from each row.
-pub fn rank_failure<R: Rank, S: System>(
+pub(crate) fn rank_failure<R: Rank, S: System>(
     system: &S,
     view: &View,
     state: u32,
