@@ -3,7 +3,7 @@ ghost use mathlib.Core.Path.{_≡_};
 ghost use Rattle.lock_text.specs.Refusals.{refusal-number, refusal-index};
 
 /// The first fault of a lock text, with the index of the byte where it stands.
-#[derive(Clone, Copy, PartialEq, Eq, Debug)]
+#[derive(Clone, Copy)]
 pub enum TextRefusal {
     /// The text has more than 16,384 bytes.
     TooLong,

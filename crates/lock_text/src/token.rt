@@ -4,7 +4,7 @@ ghost use lib.ListN.{length};
 ghost use Rattle.lock_text.specs.Spelling.{mark-spelling};
 
 /// The reserved words.
-#[derive(Clone, Copy, PartialEq, Eq, Debug)]
+#[derive(Clone, Copy)]
 pub enum Word {
     Procs,
     Vars,
@@ -22,7 +22,7 @@ pub enum Word {
 }
 
 /// The marks: `( ) + - = == != < <= : ; ,`
-#[derive(Clone, Copy, PartialEq, Eq, Debug)]
+#[derive(Clone, Copy)]
 pub enum Mark {
     Open,
     Close,
@@ -51,7 +51,7 @@ impl Mark {
 }
 
 /// A token. Names and numbers borrow their spelling from the text.
-#[derive(Clone, Copy, PartialEq, Eq, Debug)]
+#[derive(Clone, Copy)]
 pub enum Token<'a> {
     Name(&'a [u8]),
     Number(&'a [u8]),
@@ -60,7 +60,7 @@ pub enum Token<'a> {
 }
 
 /// A token and the place where it stands: from `start` up to `end`.
-#[derive(Clone, Copy, PartialEq, Eq, Debug)]
+#[derive(Clone, Copy)]
 pub struct Placed<'a> {
     pub token: Token<'a>,
     pub start: usize,

@@ -2,17 +2,10 @@
 #[cfg(test)]
 mod tests {
     use lock_text::Mark;
-    use lock_text::MarkDebug;
-    use lock_text::MarkPartialEq;
+    use lock_text::Placed;
     use lock_text::TextRefusal;
-    use lock_text::TextRefusalDebug;
-    use lock_text::TextRefusalPartialEq;
     use lock_text::Token;
-    use lock_text::TokenDebug;
-    use lock_text::TokenPartialEq;
     use lock_text::Word;
-    use lock_text::WordDebug;
-    use lock_text::WordPartialEq;
     use lock_text::count_tokens;
     use lock_text::next_token;
     use std::test::*;
@@ -109,50 +102,87 @@ mod tests {
         (b"procs 9 $", 8),
     ];
 
+    // The next token from `from` on, which has to be there.
+    fn found(text: &[u8], from: usize) -> Result<Placed, Fail> {
+        match next_token(text, from) {
+            Ok(Some(placed)) => Ok(placed),
+            Ok(None) => Err(Fail::new("no token")),
+            Err(_) => Err(Fail::new("a refusal")),
+        }
+    }
+
     #[test]
     fn words() -> Result<(), Fail> {
-        for (text, word) in WORDS {
-            let placed = next_token(text, 0)?.ok_or("no token")?;
-            check_eq(placed.token, Token::Word(word))?;
+        for (text, want) in WORDS {
+            let placed = found(text, 0)?;
             check_eq(placed.end, text.len())?;
+            match placed.token {
+                Token::Word(word) => check_eq(word as u8, want as u8)?,
+                _ => return Err(Fail::new("no word")),
+            }
         }
         Ok(())
     }
 
     #[test]
     fn marks() -> Result<(), Fail> {
-        for (text, mark) in MARKS {
-            let placed = next_token(text, 0)?.ok_or("no token")?;
-            check_eq(placed.token, Token::Mark(mark))?;
+        for (text, want) in MARKS {
+            let placed = found(text, 0)?;
             check_eq(placed.end, text.len())?;
+            match placed.token {
+                Token::Mark(mark) => check_eq(mark as u8, want as u8)?,
+                _ => return Err(Fail::new("no mark")),
+            }
         }
         Ok(())
     }
 
     #[test]
     fn names() -> Result<(), Fail> {
-        for (text, from, bytes, start, end) in NAMES {
-            let placed = next_token(text, from)?.ok_or("no token")?;
-            check_eq(placed.token, Token::Name(bytes))?;
+        for (text, from, want, start, end) in NAMES {
+            let placed = found(text, from)?;
             check_eq((placed.start, placed.end), (start, end))?;
+            match placed.token {
+                Token::Name(bytes) => check(bytes == want)?,
+                _ => return Err(Fail::new("no name")),
+            }
         }
         Ok(())
     }
 
     #[test]
     fn numbers() -> Result<(), Fail> {
-        for (text, from, bytes, start, end) in NUMBERS {
-            let placed = next_token(text, from)?.ok_or("no token")?;
-            check_eq(placed.token, Token::Number(bytes))?;
+        for (text, from, want, start, end) in NUMBERS {
+            let placed = found(text, from)?;
             check_eq((placed.start, placed.end), (start, end))?;
+            match placed.token {
+                Token::Number(bytes) => check(bytes == want)?,
+                _ => return Err(Fail::new("no number")),
+            }
         }
         Ok(())
+    }
+
+    // The text has so many tokens.
+    fn counted(text: &[u8], want: usize) -> Result<(), Fail> {
+        match count_tokens(text) {
+            Ok(count) => check_eq(count, want),
+            Err(_) => Err(Fail::new("a refusal")),
+        }
+    }
+
+    // The text is refused by the number and at the index.
+    fn refused(text: &[u8], number: u8, index: usize) -> Result<(), Fail> {
+        match count_tokens(text) {
+            Ok(_) => Err(Fail::new("no refusal")),
+            Err(refusal) => check_eq((refusal.number(), refusal.index()), (number, index)),
+        }
     }
 
     #[test]
     fn counts() -> Result<(), Fail> {
         for (text, count) in COUNTS {
-            check_eq(count_tokens(text), Ok(count))?;
+            counted(text, count)?;
         }
         Ok(())
     }
@@ -160,26 +190,34 @@ mod tests {
     #[test]
     fn faults() -> Result<(), Fail> {
         for (text, index) in FAULTS {
-            check_eq(count_tokens(text), Err(TextRefusal::Spelling(index)))?;
+            refused(text, 2, index)?;
         }
         Ok(())
+    }
+
+    // Nothing is left from the place on.
+    fn empty(text: &[u8], from: usize) -> Result<(), Fail> {
+        match next_token(text, from) {
+            Ok(None) => Ok(()),
+            _ => Err(Fail::new("something is left")),
+        }
     }
 
     // Past the last token there is none, and past the text neither.
     #[test]
     fn ends() -> Result<(), Fail> {
-        check(next_token(b"a  ", 1)?.is_none())?;
-        check(next_token(b"a", 1)?.is_none())?;
-        check(next_token(b"a", usize::MAX)?.is_none())?;
+        empty(b"a  ", 1)?;
+        empty(b"a", 1)?;
+        empty(b"a", usize::MAX)?;
         check(next_token(b"procs 9 $", 7).is_err())
     }
 
     #[test]
     fn limit_of_length() -> Result<(), Fail> {
-        check_eq(count_tokens(&[b' '; 16384]), Ok(0))?;
-        check_eq(count_tokens(&[b'('; 16384]), Ok(16384))?;
-        check_eq(count_tokens(&[b' '; 16385]), Err(TextRefusal::TooLong))?;
-        check_eq(count_tokens(&[b'$'; 16385]), Err(TextRefusal::TooLong))?;
+        counted(&[b' '; 16384], 0)?;
+        counted(&[b'('; 16384], 16384)?;
+        refused(&[b' '; 16385], 1, 0)?;
+        refused(&[b'$'; 16385], 1, 0)?;
         check(next_token(&[b' '; 16385], 16385).is_err())
     }
 
