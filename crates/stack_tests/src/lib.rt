@@ -5,10 +5,17 @@ mod tests {
     use std::test::*;
 
     // A state and the next command to try there.
-    #[derive(Clone, Copy, PartialEq, Debug)]
+    #[derive(Clone, Copy)]
     struct Frame {
         state: u32,
         next: u8,
+    }
+
+    fn parts(frame: Option<Frame>) -> Option<(u32, u8)> {
+        match frame {
+            Some(frame) => Some((frame.state, frame.next)),
+            None => None,
+        }
     }
 
     #[test]
@@ -48,13 +55,13 @@ mod tests {
         let second = Frame { state: 5, next: 2 };
         let mut room = [first; 1];
         let mut stack = Stack::new(&mut room);
-        check_eq(stack.replace_top(first), None)?;
-        check_eq(stack.top(), None)?;
-        check_eq(stack.push(first), Ok(()))?;
-        check_eq(stack.push(second), Err(second))?;
-        check_eq(stack.replace_top(second), Some(first))?;
-        check_eq(stack.pop(), Some(second))?;
-        check_eq(stack.pop(), None)
+        check_eq(parts(stack.replace_top(first)), None)?;
+        check_eq(parts(stack.top()), None)?;
+        check(stack.push(first).is_ok())?;
+        check(stack.push(second).is_err())?;
+        check_eq(parts(stack.replace_top(second)), Some((4, 0)))?;
+        check_eq(parts(stack.pop()), Some((5, 2)))?;
+        check_eq(parts(stack.pop()), None)
     }
 
     #[test]
