@@ -1,0 +1,1 @@
+//! Lock texts as streams of tokens.
