@@ -1,6 +1,18 @@
 //! Systems: the interface between those who know a lock and those who judge it.
 ghost use mathlib.Core.Path.{_≡_};
+ghost use Rattle.system.specs.Transitions.{region-number};
 ghost use Rattle.system.specs.Justice.{FairSystem, Lawful};
+
+mod mask;
+mod questions;
+
+pub use mask::Mask;
+pub use mask::MaskSystem;
+pub use mask::pile;
+pub use questions::class_enabled;
+pub use questions::has_class;
+pub use questions::holder_mask;
+pub use questions::is_clash;
 
 /// Where a process stands in a state.
 #[derive(Clone, Copy)]
@@ -9,6 +21,20 @@ pub enum Region {
     Try,
     Crit,
     Exit,
+}
+
+impl Region {
+    /// The number of the region.
+    pub fn number(self) -> u8
+        ensures { λ r. ⌜ r ≡ region-number self ⌝ }
+    {
+        match self {
+            Region::Idle => 0,
+            Region::Try => 1,
+            Region::Crit => 2,
+            Region::Exit => 3,
+        }
+    }
 }
 
 /// A lock as its judges see it. Asking changes nothing, and every number may be asked about.

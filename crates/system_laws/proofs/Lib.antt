@@ -1,0 +1,4 @@
+pub mod Holders
+pub mod Walks
+pub mod Masked
+pub mod Example

@@ -1,0 +1,3 @@
+pub mod Holding
+pub mod Passing
+pub mod Masking

@@ -1,0 +1,5 @@
+use Rattle.table.specs.Tables.{FirstBelow}
+use Rattle.table.proofs.states_below.Given as given
+
+abbrev pub Inv-loop-e : given.InvT-loop-e
+Inv-loop-e l = FirstBelow (l .list) (l .e-index) (l .bound)
