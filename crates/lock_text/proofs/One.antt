@@ -70,10 +70,10 @@ mark-no-blank Colon = refl
 mark-no-blank Semicolon = refl
 mark-no-blank Comma = refl
 
-letter-no-blank : (b : ℕ) → is-letter b ≡ true → is-blank b ≡ true → ⊥
+pub letter-no-blank : (b : ℕ) → is-letter b ≡ true → is-blank b ≡ true → ⊥
 letter-no-blank b l k = grind (arith, needs)
 
-digit-no-blank : (b : ℕ) → is-digit b ≡ true → is-blank b ≡ true → ⊥
+pub digit-no-blank : (b : ℕ) → is-digit b ≡ true → is-blank b ≡ true → ⊥
 digit-no-blank b d k = grind (arith, needs)
 
 shape-no-blank : (w : List ℕ) → Shape w → is-blank (getD w 0 0) ≡ true → ⊥
@@ -109,11 +109,11 @@ same-lexeme (mark l) (mark m) f g e = ap mark (sym (named-mark l) ∙ ap mark-na
 
 -- the first byte of a token is no blank, so blanks tell where the next token, or the fault, stands
 
-token-no-blank : (t : List ℕ) (a : ℕ) (l : Lexeme) (e : ℕ) → TokenAt t a l e → is-blank (getD t a 0) ≡ true → ⊥
+pub token-no-blank : (t : List ℕ) (a : ℕ) (l : Lexeme) (e : ℕ) → TokenAt t a l e → is-blank (getD t a 0) ≡ true → ⊥
 token-no-blank t a l e k b = shape-no-blank (part t a e) (token-shape t a l e k) (ap is-blank (part-first t a e (k .some-bytes)) ∙ b)
 
 -- after blanks, one place is the first that is no blank
-same-place : (t : List ℕ) (a s u : ℕ) → a ≤ s → a ≤ u → Blanks t a s → Blanks t a u → s < length t → u < length t →
+pub same-place : (t : List ℕ) (a s u : ℕ) → a ≤ s → a ≤ u → Blanks t a s → Blanks t a u → s < length t → u < length t →
     (is-blank (getD t s 0) ≡ true → ⊥) → (is-blank (getD t u 0) ≡ true → ⊥) → s ≡ u
 same-place t a s u ls lu bs bu st ut ns nu = by (cases-order s u)
   where
@@ -125,7 +125,7 @@ same-place t a s u ls lu bs bu st ut ns nu = by (cases-order s u)
 token-inside : (t : List ℕ) (a : ℕ) (l : Lexeme) (e : ℕ) → TokenAt t a l e → a < length t
 token-inside t a l e k = let h = k .some-bytes in let w = k .within in omega arith
 
-fault-no-blank : (t : List ℕ) (a s : ℕ) → Misspelt t a s → is-blank (getD t s 0) ≡ true → ⊥
+pub fault-no-blank : (t : List ℕ) (a s : ℕ) → Misspelt t a s → is-blank (getD t s 0) ≡ true → ⊥
 fault-no-blank t a s k b = both-ways (is-blank (getD t s 0)) (k .no-blank) b
 
 one-token : (t : List ℕ) (a : ℕ) (l m : Lexeme) (e f : ℕ) → TokenAt t a l e → TokenAt t a m f → (l ≡ m) × (e ≡ f)
@@ -133,7 +133,7 @@ one-token t a l m e f k n =
     let ends : e ≡ f = same-end t a f (n .within) (token-shape t a m f n) (n .longest) l e k in
     (same-lexeme l m (k .well-formed) (n .well-formed) (k .spelt ∙ ap (part t a) ends ∙ sym (n .spelt)), ends)
 
-one-next : (t : List ℕ) (a : ℕ) (l m : Lexeme) (s e u f : ℕ) → NextToken t a l s e → NextToken t a m u f → (l ≡ m) × (e ≡ f)
+pub one-next : (t : List ℕ) (a : ℕ) (l m : Lexeme) (s e u f : ℕ) → NextToken t a l s e → NextToken t a m u f → (l ≡ m) × (e ≡ f)
 one-next t a l m s e u f k n =
     let at : s ≡ u = same-place t a s u (k .after) (n .after) (k .blanks) (n .blanks) (token-inside t s l e (k .token)) (token-inside t u m f (n .token))
     (token-no-blank t s l e (k .token)) (token-no-blank t u m f (n .token)) in
@@ -141,18 +141,18 @@ one-next t a l m s e u f k n =
 
 -- where a token stands, blanks do not go on to the end
 
-next-not-none : (t : List ℕ) (a : ℕ) (l : Lexeme) (s e : ℕ) → NextToken t a l s e → NoToken t a → ⊥
+pub next-not-none : (t : List ℕ) (a : ℕ) (l : Lexeme) (s e : ℕ) → NextToken t a l s e → NoToken t a → ⊥
 next-not-none t a l s e k none =
     let inside = token-inside t s l e (k .token) in
     token-no-blank t s l e (k .token) (none s (k .after) inside inside)
 
-next-not-fault : (t : List ℕ) (a : ℕ) (l : Lexeme) (s e u : ℕ) → NextToken t a l s e → Misspelt t a u → ⊥
+pub next-not-fault : (t : List ℕ) (a : ℕ) (l : Lexeme) (s e u : ℕ) → NextToken t a l s e → Misspelt t a u → ⊥
 next-not-fault t a l s e u k n =
     let at : s ≡ u = same-place t a s u (k .after) (n .after) (k .blanks) (n .blanks) (token-inside t s l e (k .token)) (n .within)
     (token-no-blank t s l e (k .token)) (fault-no-blank t a u n) in
     n .no-token l e (subst (λ (i : ℕ). TokenAt t i l e) at (k .token))
 
-none-not-fault : (t : List ℕ) (a u : ℕ) → NoToken t a → Misspelt t a u → ⊥
+pub none-not-fault : (t : List ℕ) (a u : ℕ) → NoToken t a → Misspelt t a u → ⊥
 none-not-fault t a u none n = fault-no-blank t a u n (none u (n .after) (n .within) (n .within))
 
 -- the two lists go on alike as long as both do
