@@ -1,0 +1,43 @@
+-- What the grammar of lock texts and their reading have to do with each other. Assumes nothing.
+use mathlib.Core.Path.{_≡_}
+use mathlib.Core.List.{List}
+use Prim.Native.Nat.{ℕ}
+use Rattle.lock_text.specs.Spelling.{Lexeme}
+use Rattle.token_stream.specs.Streams.{Stream, end}
+use Rattle.expression_grammar.specs.Laws.{Begins, front}
+use Rattle.step_rule.specs.Programs.{Program}
+use Rattle.step_rule.specs.Codes.{WellFormed}
+use Rattle.lock_grammar.specs.Grammar.{LockText}
+use Rattle.lock_grammar.specs.Combinators.{Position, refused, read}
+use Rattle.lock_grammar.specs.Reading.{text-read}
+
+-- The stream is the text of this program: its tokens up to its end are in the grammar.
+abbrev pub Means : Stream → Program → Type 0
+Means x p = (ls : List Lexeme) × (n : ℕ) × Begins x ls (end n) × LockText p ls
+
+-- The stream is read as this program.
+abbrev pub ReadAs : Stream → Program → Type 0
+ReadAs x p = (s : Position) × (text-read x ≡ read p s)
+
+-- What is read as a program means it.
+abbrev pub Sound-texts : Type 0
+Sound-texts = (x : Stream) (p : Program) → ReadAs x p → Means x p
+
+-- What means a program is read as it.
+abbrev pub Complete-texts : Type 0
+Complete-texts = (x : Stream) (p : Program) → Means x p → ReadAs x p
+
+-- The same tokens are one program.
+abbrev pub One-program : Type 0
+One-program = (ls : List Lexeme) (p q : Program) → LockText p ls → LockText q ls → p ≡ q
+
+-- The program of a text is well formed.
+abbrev pub Well-formed-programs : Type 0
+Well-formed-programs = (p : Program) (ls : List Lexeme) → LockText p ls → WellFormed p
+
+-- Where a text is refused at a token, every text with the same tokens up to and through that one is refused there by
+-- the same number, and means no program.
+abbrev pub First-fault-of-texts : Type 0
+First-fault-of-texts =
+    (x : Stream) (m : ℕ) (r : Stream) → text-read x ≡ refused m r →
+    (before : List Lexeme) × Begins x before r × ((y q : Stream) → Begins y before q → front q ≡ front r → (text-read y ≡ refused m q) × ((p : Program) → ¬ Means y p))

@@ -1,0 +1,6 @@
+pub mod Names
+pub mod Grammar
+pub mod Tests
+pub mod Combinators
+pub mod Reading
+pub mod Laws
