@@ -232,12 +232,12 @@ module _ {A B : Type 0} (f : Reader A) (k : A → Reader B) (P : Relation A) (Q 
       }
 
   -- the first reader may ask what it is that follows
-  pub CompleteIf : Type 0
+  abbrev pub CompleteIf : Type 0
   CompleteIf =
       (s : Position) (a : A) (n : ℕ) (ls : List Lexeme) (x : Stream) → P a n ls → Begins (s .rest) ls x → s .items + n ≤ max-items → (b : B) (m : ℕ) (us : List Lexeme) (y : Stream) → Q a b m us → Begins x us y → f s ≡ read a (moved s x n)
 
   next-go : CompleteIf → ((a : A) → Complete (k a) (Q a)) → {b : B} {n : ℕ} {ls : List Lexeme} → Seq P Q b n ls → (s : Position) (x : Stream) → Begins (s .rest) ls x → s .items + n ≤ max-items → next f k s ≡ read b (moved s x n)
-  unfolding next CompleteIf
+  unfolding next
   next-go p q {b} (both {a} {m = m} {n = n} {ts = ts} {us = us} d e) s x r l =
       let c = begins-split (s .rest) x ts us r in
       let sum : s .items + m + n ≡ s .items + (m + n) = omega arith in
@@ -251,7 +251,6 @@ module _ {A B : Type 0} (f : Reader A) (k : A → Reader B) (P : Relation A) (Q 
   }
 
   pub reads-next : Reads f P → ((a : A) → Reads (k a) (Q a)) → Reads (next f k) (Seq P Q)
-  unfolding CompleteIf
   reads-next p q = reads-next-if (p .sound) (λ s a n ls x d r l b m us y e g. p .complete s a n ls x d r l) (p .local) q
 
 -- so many parts
