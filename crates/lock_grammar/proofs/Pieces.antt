@@ -1,7 +1,7 @@
 -- Each part of a lock text is read exactly as the grammar has it. Assumes nothing.
 use mathlib.Core.Path.{_≡_, refl, sym, ap, subst, _∙_}
 use mathlib.Core.Bool.{Bool, true, false}
-use mathlib.Core.List.{List, [], _∷_, _++_, append-assoc}
+use mathlib.Core.List.{List, [], _∷_, _++_, append-assoc, append-nil}
 use Prim.Native.Nat.{ℕ, zero, suc, _+_, _-_, _≤_, _<_}
 use native.Mathlib.Omega.{arith}
 use lib.ListN.{length}
@@ -37,6 +37,23 @@ seq {f = f} {k = k} {P = P} {Q = Q} p q = reads-next f k P Q p q
 -- a relation holds for the count too, where the count is another number for the same
 pub counts : {A : Type 0} (P : Relation A) (a : A) (m n : ℕ) (ls : List Lexeme) → m ≡ n → P a m ls → P a n ls
 counts P a m n ls e p = subst (λ (k : ℕ). P a k ls) e p
+
+-- a reader whose result is turned into another
+
+pub data Mapped {A B : Type 0} (P : Relation A) (g : A → B) : B → ℕ → List Lexeme → Type 0 where
+  mapped : {a : A} {n : ℕ} {ls : List Lexeme} → P a n ls → Mapped P g (g a) n ls
+
+mapped-to : {A B : Type 0} {P : Relation A} {g : A → B} (b : B) (n : ℕ) (ls : List Lexeme) → Seq P (λ a. Done (g a)) b n ls → Mapped P g b n ls
+mapped-to {P = P} {g = g} b n ls (both {a = a} {m = m} {ts = ts} p stays) =
+    subst (λ (us : List Lexeme). Mapped P g (g a) (m + 0) us) (sym (append-nil ts)) (counts (Mapped P g) (g a) m (m + 0) ts (omega arith) (mapped p))
+
+mapped-back : {A B : Type 0} {P : Relation A} {g : A → B} (b : B) (n : ℕ) (ls : List Lexeme) → Mapped P g b n ls → Seq P (λ a. Done (g a)) b n ls
+mapped-back {P = P} {g = g} b n ls (mapped {a = a} p) =
+    let r : Seq P (λ a. Done (g a)) (g a) (n + 0) (ls ++ []) = both p stays in
+    subst (λ (us : List Lexeme). Seq P (λ a. Done (g a)) (g a) n us) (append-nil ls) (counts (Seq P (λ a. Done (g a))) (g a) (n + 0) n (ls ++ []) (omega arith) r)
+
+pub reads-mapped : {A B : Type 0} {f : Reader A} {P : Relation A} (g : A → B) → Reads f P → Reads (next f (λ a. done (g a))) (Mapped P g)
+reads-mapped g p = reads-as mapped-to mapped-back (seq p (λ a. reads-done (g a)))
 
 -- a measure that nothing adds to
 abbrev pub free : {A : Type 0} → A → ℕ
