@@ -194,7 +194,7 @@ reads-one test R ok = record { sound = one-sound test R ok; complete = λ s a n 
 pub data Seq {A B : Type 0} (P : Relation A) (Q : A → Relation B) : B → ℕ → List Lexeme → Type 0 where
   both : {a : A} {b : B} {m n : ℕ} {ts us : List Lexeme} → P a m ts → Q a b n us → Seq P Q b (m + n) (ts ++ us)
 
-then-read : {A B : Type 0} (o : Result A) (k : A → Reader B) (b : B) (t : Position) → then o k ≡ read b t → (a : A) × (s : Position) × (o ≡ read a s) × (k a s ≡ read b t)
+pub then-read : {A B : Type 0} (o : Result A) (k : A → Reader B) (b : B) (t : Position) → then o k ≡ read b t → (a : A) × (s : Position) × (o ≡ read a s) × (k a s ≡ read b t)
 then-read (refused n x) k b t h = clash h
 then-read (read a s) k b t h = (a, s, refl, h)
 

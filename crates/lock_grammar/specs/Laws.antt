@@ -7,6 +7,8 @@ use Rattle.token_stream.specs.Streams.{Stream, end}
 use Rattle.expression_grammar.specs.Laws.{Begins, front}
 use Rattle.step_rule.specs.Programs.{Program}
 use Rattle.step_rule.specs.Codes.{WellFormed}
+use Rattle.step_rule.specs.Meaning.{meaning-of}
+use Rattle.system.specs.Justice.{Lawful}
 use Rattle.lock_grammar.specs.Grammar.{LockText}
 use Rattle.lock_grammar.specs.Combinators.{Position, refused, read}
 use Rattle.lock_grammar.specs.Reading.{text-read}
@@ -34,6 +36,10 @@ One-program = (ls : List Lexeme) (p q : Program) → LockText p ls → LockText 
 -- The program of a text is well formed.
 abbrev pub Well-formed-programs : Type 0
 Well-formed-programs = (p : Program) (ls : List Lexeme) → LockText p ls → WellFormed p
+
+-- It means a lawful system.
+abbrev pub Lawful-systems : Type 0
+Lawful-systems = (p : Program) (ls : List Lexeme) → LockText p ls → Lawful (meaning-of p)
 
 -- Where a text is refused at a token, every text with the same tokens up to and through that one is refused there by
 -- the same number, and means no program.
