@@ -84,7 +84,7 @@ once-push (b ∷ rest) a (p, o) (q, s) = (all-push (Spares (b .target)) rest a p
 abbrev pub Sound-list : ℕ → List Assignment → Type 0
 Sound-list n all = All (GoodAssignment n) all × AssignedOnce all
 
-list-push : (n : ℕ) (before : List Assignment) (a : Assignment) → Sound-list n before → GoodAssignment n a → All (Spares (a .target)) before → Sound-list n (before ++ (a ∷ []))
+pub list-push : (n : ℕ) (before : List Assignment) (a : Assignment) → Sound-list n before → GoodAssignment n a → All (Spares (a .target)) before → Sound-list n (before ++ (a ∷ []))
 list-push n before a (p, o) g s = (all-push (GoodAssignment n) before a p g, once-push before a o s)
 
 pub assigned-good : {variables : List Name} {before all : List Assignment} {ls : List Lexeme} → Assigned variables before all ls → Sound-list (length variables) before → Sound-list (length variables) all
@@ -172,7 +172,7 @@ no-more-than-variables (suc n) all h o =
     below-other : (a : Assignment) → a .target < suc n → ¬ (a .target ≡ n) → a .target < n
     below-other a p s = omega arith
 
-all-below : (n : ℕ) (all : List Assignment) → All (GoodAssignment n) all → All (Below n) all
+pub all-below : (n : ℕ) (all : List Assignment) → All (GoodAssignment n) all → All (Below n) all
 all-below n [] h = tt
 all-below n (a ∷ rest) (p, h) = (p .0, all-below n rest h)
 

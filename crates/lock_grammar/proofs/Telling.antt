@@ -177,7 +177,7 @@ known-told-by names w a (Some i) e h =
     subst (λ (n : ℕ). KnownName names n (name w)) p (G.known-name w i e)
 known-told-by names w a None e h = no-take h
 
-known-told : (names : List Name) (l : Lexeme) (a : ℕ) → declared names l ≡ takes a → KnownName names a l
+pub known-told : (names : List Name) (l : Lexeme) (a : ℕ) → declared names l ≡ takes a → KnownName names a l
 unfolding declared
 known-told names (name w) a h = known-told-by names w a (index-of names w) refl h
 known-told names (number w) a h = no-take h

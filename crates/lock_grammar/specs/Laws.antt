@@ -3,7 +3,9 @@ use mathlib.Core.Path.{_≡_}
 use mathlib.Core.List.{List}
 use Prim.Native.Nat.{ℕ}
 use Rattle.lock_text.specs.Spelling.{Lexeme}
+use Rattle.lock_text.specs.Tokens.{TokensOf}
 use Rattle.token_stream.specs.Streams.{Stream, end}
+use Rattle.token_stream.specs.Computed.{stream-of}
 use Rattle.expression_grammar.specs.Laws.{Begins, front}
 use Rattle.step_rule.specs.Programs.{Program}
 use Rattle.step_rule.specs.Codes.{WellFormed}
@@ -20,6 +22,14 @@ Means x p = (ls : List Lexeme) × (n : ℕ) × Begins x ls (end n) × LockText p
 -- The stream is read as this program.
 abbrev pub ReadAs : Stream → Program → Type 0
 ReadAs x p = (s : Position) × (text-read x ≡ read p s)
+
+-- The text, by its bytes, means this program.
+abbrev pub TextMeans : List ℕ → Program → Type 0
+TextMeans t p = (ls : List Lexeme) × TokensOf t ls × LockText p ls
+
+-- A text is read as a program exactly when it means it.
+abbrev pub Read-exactly : Type 0
+Read-exactly = (t : List ℕ) (p : Program) → (ReadAs (stream-of t) p → TextMeans t p) × (TextMeans t p → ReadAs (stream-of t) p)
 
 -- What is read as a program means it.
 abbrev pub Sound-texts : Type 0

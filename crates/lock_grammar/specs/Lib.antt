@@ -4,3 +4,4 @@ pub mod Tests
 pub mod Combinators
 pub mod Reading
 pub mod Laws
+pub mod Examples

@@ -1,5 +1,6 @@
 //! The grammar of whole lock texts, their reading from a stream of tokens, and what the two have to do with each other.
-ghost use Rattle.lock_grammar.specs.Laws.{Sound-texts, Complete-texts, One-program, Well-formed-programs, Lawful-systems, First-fault-of-texts};
+ghost use Rattle.lock_grammar.specs.Laws.{Sound-texts, Complete-texts, One-program, Well-formed-programs, Lawful-systems, First-fault-of-texts, Read-exactly};
+ghost use Rattle.lock_grammar.specs.Examples.{Refusal-examples, Read-example};
 
 /// What is read as a program means it by the grammar.
 pub fn texts_are_read_soundly()
@@ -25,4 +26,15 @@ pub fn programs_of_texts_are_lawful()
 /// Past a refused token no text, however it goes on, means a program.
 pub fn first_fault_of_texts_decides()
     ensures { λ _. ⌜ First-fault-of-texts ⌝ }
+{}
+
+/// A text is read as a program exactly when its tokens are that program by the grammar.
+pub fn texts_are_read_exactly()
+    ensures { λ _. ⌜ Read-exactly ⌝ }
+{}
+
+/// A text for each cause of a refusal, and a lock that is read.
+pub fn example_texts_are_answered()
+    ensures refusals { λ _. ⌜ Refusal-examples ⌝ }
+    ensures lock { λ _. ⌜ Read-example ⌝ }
 {}
