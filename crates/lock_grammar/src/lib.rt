@@ -1,5 +1,5 @@
 //! The grammar of whole lock texts, their reading from a stream of tokens, and what the two have to do with each other.
-ghost use Rattle.lock_grammar.specs.Laws.{Sound-texts, Complete-texts, One-program, Well-formed-programs, Lawful-systems, First-fault-of-texts, Read-exactly};
+ghost use Rattle.lock_grammar.specs.Laws.{Sound-texts, Complete-texts, One-program, Well-formed-programs, Lawful-systems, First-fault-of-texts, Read-exactly, Names-are-found};
 ghost use Rattle.lock_grammar.specs.Examples.{Refusal-examples, Read-example};
 
 /// What is read as a program means it by the grammar.
@@ -37,4 +37,9 @@ pub fn texts_are_read_exactly()
 pub fn example_texts_are_answered()
     ensures refusals { λ _. ⌜ Refusal-examples ⌝ }
     ensures lock { λ _. ⌜ Read-example ⌝ }
+{}
+
+/// Names are found where they stand.
+pub fn names_are_found()
+    ensures { λ _. ⌜ Names-are-found ⌝ }
 {}
