@@ -171,7 +171,7 @@ one-program ls p q d e =
     let b = complete-texts (alone ls) q (ls, 0, begins-alone ls, e) in
     same-read (text-read (alone ls)) p q (a .0) (b .0) (a .1) (b .1)
 
-not-both : (o : Result Program) (m : ℕ) (r : Stream) (p : Program) (s : Position) → o ≡ refused m r → o ≡ read p s → ⊥
+pub not-both : (o : Result Program) (m : ℕ) (r : Stream) (p : Program) (s : Position) → o ≡ refused m r → o ≡ read p s → ⊥
 not-both o m r p s h i = let z : _≡_ {A = ℕ} 0 1 = cc in omega arith
 
 pub first-fault : First-fault-of-texts

@@ -1,13 +1,15 @@
 -- What the grammar of lock texts and their reading have to do with each other. Assumes nothing.
 use mathlib.Core.Path.{_≡_}
 use mathlib.Core.List.{List}
-use Prim.Native.Nat.{ℕ, _<_}
+use Prim.Native.Nat.{ℕ, _+_, _<_}
+use lib.ListN.{take}
 use Rattle.std.specs.declared.option.Option.the-variants.{Some, None}
 use Rattle.std.specs.shelf.Maps.{nth}
 use Rattle.lock_text.specs.Spelling.{Lexeme}
 use Rattle.lock_text.specs.Tokens.{TokensOf}
-use Rattle.token_stream.specs.Streams.{Stream, end}
+use Rattle.token_stream.specs.Streams.{Stream, end, Streams}
 use Rattle.token_stream.specs.Computed.{stream-of}
+use Rattle.expression_grammar.specs.Kinds.{place}
 use Rattle.expression_grammar.specs.Laws.{Begins, front}
 use Rattle.step_rule.specs.Programs.{Program}
 use Rattle.step_rule.specs.Codes.{WellFormed}
@@ -66,3 +68,11 @@ abbrev pub First-fault-of-texts : Type 0
 First-fault-of-texts =
     (x : Stream) (m : ℕ) (r : Stream) → text-read x ≡ refused m r →
     (before : List Lexeme) × Begins x before r × ((y q : Stream) → Begins y before q → front q ≡ front r → (text-read y ≡ refused m q) × ((p : Program) → ¬ Means y p))
+
+-- Where a text is refused, every text with the same bytes up to and with the first one of the refused token, and with
+-- the same token there, is refused there by the same number, and means no program.
+abbrev pub First-fault-by-bytes : Type 0
+First-fault-by-bytes =
+    (t : List ℕ) (m : ℕ) (r : Stream) → text-read (stream-of t) ≡ refused m r →
+    (u : List ℕ) (q : Stream) → take (place r + 1) t ≡ take (place r + 1) u → Streams u (place r) q → front q ≡ front r →
+    (text-read (stream-of u) ≡ refused m q) × ((p : Program) → ¬ TextMeans u p)

@@ -1,5 +1,5 @@
 //! The grammar of whole lock texts, their reading from a stream of tokens, and what the two have to do with each other.
-ghost use Rattle.lock_grammar.specs.Laws.{Sound-texts, Complete-texts, One-program, Well-formed-programs, Lawful-systems, First-fault-of-texts, Read-exactly, Names-are-found};
+ghost use Rattle.lock_grammar.specs.Laws.{Sound-texts, Complete-texts, One-program, Well-formed-programs, Lawful-systems, First-fault-of-texts, First-fault-by-bytes, Read-exactly, Names-are-found};
 ghost use Rattle.lock_grammar.specs.Examples.{Refusal-examples, Read-example};
 
 /// What is read as a program means it by the grammar.
@@ -25,7 +25,8 @@ pub fn programs_of_texts_are_lawful()
 
 /// Past a refused token no text, however it goes on, means a program.
 pub fn first_fault_of_texts_decides()
-    ensures { λ _. ⌜ First-fault-of-texts ⌝ }
+    ensures tokens { λ _. ⌜ First-fault-of-texts ⌝ }
+    ensures bytes { λ _. ⌜ First-fault-by-bytes ⌝ }
 {}
 
 /// A text is read as a program exactly when its tokens are that program by the grammar.
