@@ -6,7 +6,7 @@ use Rattle.lock_grammar.specs.Names.{index-of}
 use Rattle.lock_grammar.specs.Combinators.{next, one, times, at-end}
 use Rattle.lock_grammar.specs.Tests.{this-word, this-mark, number-within, undeclared, declared, region-word, class-or-none, unassigned, none-left, target-or-end, comma-or-end}
 use Rattle.lock_grammar.specs.Reading.{formula, assigning}
-use Rattle.lock_grammar.specs.Examples.{Refusal-examples, Read-example}
+use Rattle.lock_grammar.specs.Examples.{Refusal-examples, Read-examples}
 
 pub refusals : Refusal-examples
 unfolding run-length stream-from count operand more chain atom factor levels index-of next one times at-end this-word this-mark number-within undeclared declared region-word class-or-none unassigned none-left target-or-end comma-or-end formula assigning
@@ -22,9 +22,10 @@ refusals = record {
   unknown = refl;
   twice = refl;
   levels = refl;
+  operands = refl;
   states = refl;
 }
 
-pub lock-read : Read-example
+pub locks-read : Read-examples
 unfolding run-length stream-from count operand more chain atom factor levels index-of next one times at-end this-word this-mark number-within undeclared declared region-word class-or-none unassigned none-left target-or-end comma-or-end formula assigning
-lock-read = refl
+locks-read = record { plain = refl; assigning = refl }

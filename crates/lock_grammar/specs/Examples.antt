@@ -8,7 +8,7 @@ use Rattle.std.specs.declared.option.Option.the-variants.{Some, None}
 use Rattle.system.specs.declared.Region.the-variants.{Idle, Try, Crit}
 use Rattle.token_stream.specs.Computed.{stream-of}
 use Rattle.expression.specs.Tree.{Tree, number, variable, joined}
-use Rattle.expression.specs.declared.Operator.the-variants.{Equal}
+use Rattle.expression.specs.declared.Operator.the-variants.{Equal, Plus}
 use Rattle.expression_grammar.specs.Kinds.{place}
 use Rattle.step_rule.specs.Programs.{Program, Command, Assignment}
 use Rattle.lock_grammar.specs.Combinators.{Result, refused, read}
@@ -39,19 +39,29 @@ pub record Refusal-examples : Type 0 where
   pub unknown : answer (codes "procs 1 vars 1 a 1 0 locs 1 b idle classes 0 cmds 1 0 a") ≡ refuses 6 54
   pub twice : answer (codes "procs 1 vars 1 a 1 0 locs 1 b idle classes 0 cmds 1 0 b b none : 1 : a = 1, a = 0;") ≡ refuses 7 76
   pub levels : answer (codes "procs 1 vars 0 locs 1 b idle classes 0 cmds 1 0 b b none : (((((((((1)))))))))") ≡ refuses 8 67
+  pub operands : answer (codes "procs 1 vars 0 locs 1 b idle classes 0 cmds 1 0 b b none : 1+1+1+1+1+1+1+1+1+1+1+1+1+1+1+1+1+1+1+1+1+1+1+1+1+1+1+1+1+1+1+1+1") ≡ refuses 8 123
   pub states : answer (codes "procs 1 vars 2 a 255 0 b 255 0 locs 2 c idle d try") ≡ refuses 9 47
 
--- A lock of one process, read.
-abbrev pub step : ℕ → ℕ → Option ℕ → Command
-step from to class = record { process = 0; from = from; to = to; class = class; guard = number 1; assignments = [] }
+abbrev pub step : ℕ → ℕ → Option ℕ → Tree → List Assignment → Command
+step from to class guard assignments = record { process = 0; from = from; to = to; class = class; guard = guard; assignments = assignments }
 
-abbrev pub Read-example : Type 0
-Read-example =
-    answer (codes "procs 1 vars 0 locs 3 n idle t try c crit classes 1 cmds 3 0 n t none : 1 : ; 0 t c 0 : 1 : ; 0 c n 0 : 1 : ;") ≡ reads (record {
-      processes = 1;
-      maxima = [];
-      initials = [];
-      locations = Idle ∷ Try ∷ Crit ∷ [];
-      classes = 1;
-      commands = step 0 1 None ∷ step 1 2 (Some 0) ∷ step 2 0 (Some 0) ∷ [];
-    })
+-- Two locks of one process, read: one without variables, and one that guards and assigns.
+pub record Read-examples : Type 0 where
+  pub plain :
+      answer (codes "procs 1 vars 0 locs 3 n idle t try c crit classes 1 cmds 3 0 n t none : 1 : ; 0 t c 0 : 1 : ; 0 c n 0 : 1 : ;") ≡ reads (record {
+        processes = 1;
+        maxima = [];
+        initials = [];
+        locations = Idle ∷ Try ∷ Crit ∷ [];
+        classes = 1;
+        commands = step 0 1 None (number 1) [] ∷ step 1 2 (Some 0) (number 1) [] ∷ step 2 0 (Some 0) (number 1) [] ∷ [];
+      })
+  pub assigning :
+      answer (codes "procs 1 vars 2 m 1 0 k 255 7 locs 2 n idle c crit classes 0 cmds 1 0 n c none : m == 0 : m = 1, k = k + m;") ≡ reads (record {
+        processes = 1;
+        maxima = 1 ∷ 255 ∷ [];
+        initials = 0 ∷ 7 ∷ [];
+        locations = Idle ∷ Crit ∷ [];
+        classes = 0;
+        commands = step 0 1 None (joined Equal (variable 0) (number 0)) (record { target = 0; source = number 1 } ∷ record { target = 1; source = joined Plus (variable 1) (variable 0) } ∷ []) ∷ [];
+      })

@@ -1,6 +1,6 @@
 //! The grammar of whole lock texts, their reading from a stream of tokens, and what the two have to do with each other.
 ghost use Rattle.lock_grammar.specs.Laws.{Sound-texts, Complete-texts, One-program, Well-formed-programs, Lawful-systems, First-fault-of-texts, First-fault-by-bytes, Read-exactly, Names-are-found};
-ghost use Rattle.lock_grammar.specs.Examples.{Refusal-examples, Read-example};
+ghost use Rattle.lock_grammar.specs.Examples.{Refusal-examples, Read-examples};
 
 /// What is read as a program means it by the grammar.
 pub fn texts_are_read_soundly()
@@ -34,10 +34,10 @@ pub fn texts_are_read_exactly()
     ensures { λ _. ⌜ Read-exactly ⌝ }
 {}
 
-/// A text for each cause of a refusal, and a lock that is read.
+/// A text for each cause of a refusal, and two locks that are read.
 pub fn example_texts_are_answered()
     ensures refusals { λ _. ⌜ Refusal-examples ⌝ }
-    ensures lock { λ _. ⌜ Read-example ⌝ }
+    ensures locks { λ _. ⌜ Read-examples ⌝ }
 {}
 
 /// Names are found where they stand.
