@@ -1,15 +1,15 @@
 -- Texts by their bytes: the tokens of a text are those of its stream. Assumes nothing.
-use mathlib.Core.Path.{_≡_, refl, sym, ap, subst, _∙_}
+use mathlib.Core.Path.{_≡_, refl, sym, subst}
 use mathlib.Core.List.{List, [], _∷_}
 use Prim.Native.Nat.{ℕ}
 use lib.ListN.{length}
 use Rattle.lock_text.specs.Spelling.{Lexeme}
-use Rattle.lock_text.specs.Tokens.{NoToken, TokensTo, TokensOf}
+use Rattle.lock_text.specs.Tokens.{NoToken, TokensTo}
 use Rattle.token_stream.specs.Streams.{Stream, token, end, Streams}
 use Rattle.token_stream.specs.Computed.{stream-of}
 use Rattle.token_stream.proofs.Streaming.{streams-are-one, stream-of-text}
 use Rattle.expression_grammar.specs.Laws.{Begins}
-use Rattle.lock_grammar.specs.Laws.{TextMeans, Means, ReadAs, Read-exactly}
+use Rattle.lock_grammar.specs.Laws.{Read-exactly}
 use Rattle.lock_grammar.proofs.Texts.{sound-texts, complete-texts}
 
 tokens-of-stream : (t : List ℕ) (a : ℕ) (x : Stream) (ls : List Lexeme) (n : ℕ) → Streams t a x → Begins x ls (end n) → (e : ℕ) × TokensTo t a ls e × NoToken t e

@@ -1,5 +1,5 @@
 -- Assignments and commands are read exactly as the grammar has them. Assumes nothing.
-use mathlib.Core.Path.{_≡_, refl, sym, ap, subst, _∙_}
+use mathlib.Core.Path.{_≡_, refl, sym, ap, _∙_}
 use mathlib.Core.Bool.{Bool, true, false}
 use mathlib.Core.List.{List, [], _∷_, _++_}
 use Prim.Native.Nat.{ℕ, zero, suc, _+_, _-_, _≤_, _<_}
@@ -13,7 +13,6 @@ use Rattle.lock_text.specs.declared.token.Mark.the-variants as Marks
 use Rattle.expression.specs.Tree.{Tree, items}
 use Rattle.expression.specs.declared.Operator.{Operator}
 use Rattle.expression_grammar.specs.Kinds.{Scope, kind, sign}
-use Rattle.expression_grammar.specs.declared.kind.Kind.{Kind}
 use Rattle.expression_grammar.specs.declared.kind.Kind.the-variants.{Operator as Joins, Other}
 use Rattle.expression_grammar.proofs.Facts.{kind-of-sign}
 use Rattle.step_rule.specs.Programs.{Command, Assignment}

@@ -1,5 +1,5 @@
 -- The examples, worked out. Assumes nothing.
-use mathlib.Core.Path.{_≡_, refl}
+use mathlib.Core.Path.{refl}
 use Rattle.token_stream.specs.Computed.{run-length, stream-from}
 use Rattle.expression_grammar.specs.Reading.{count, operand, more, chain, atom, factor, levels}
 use Rattle.lock_grammar.specs.Names.{index-of}

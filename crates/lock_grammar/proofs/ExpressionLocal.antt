@@ -2,10 +2,9 @@
 use mathlib.Core.Path.{_≡_, refl, sym, ap, subst, _∙_}
 use mathlib.Core.Bool.{Bool, true, false}
 use mathlib.Core.List.{List, [], _∷_, _++_}
-use Prim.Native.Nat.{ℕ, zero, suc, _+_, _≤_, _<_}
+use Prim.Native.Nat.{ℕ, zero, suc, _+_, _≤_}
 use native.Mathlib.Omega.{arith}
 use lib.Dec.{ltb}
-use lib.ListN.{length}
 use Rattle.std.specs.declared.option.Option.{Option}
 use Rattle.std.specs.declared.option.Option.the-variants.{Some, None}
 use Rattle.lock_text.specs.Spelling.{Lexeme}
@@ -17,7 +16,7 @@ use Rattle.expression_grammar.specs.Reading.{State, Outcome, refused, read, the
 use Rattle.expression_grammar.specs.Laws.{Begins, front}
 use Rattle.expression_grammar.specs.declared.kind.Kind.{Kind}
 use Rattle.expression_grammar.specs.declared.kind.Kind.the-variants.{Number, Large, Variable, Unknown, Operator as Joins, Not, Open, Close, Other, Misspelt}
-use Rattle.expression_grammar.proofs.Facts.{begins-on, begins-split, begins-size, begins-one, begins-with, same-front, same-kind, joining-tells, no-operator, operator-here, not-here, open-here, close-here, number-here, variable-here}
+use Rattle.expression_grammar.proofs.Facts.{begins-on, begins-split, begins-size, begins-one, begins-with, same-front, same-kind, joining-tells, operator-here, not-here, open-here, close-here, number-here, variable-here}
 
 abbrev pub at : State → Stream → State
 at s x = record { rest = x; operands = s .operands; items = s .items }

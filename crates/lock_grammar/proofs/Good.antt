@@ -1,11 +1,11 @@
 -- What the parts of a lock text promise of the program. Assumes nothing.
-use mathlib.Core.Path.{_≡_, refl, sym, ap, subst, _∙_}
+use mathlib.Core.Path.{_≡_, refl, sym, subst}
 use mathlib.Core.Bool.{Bool, true, false, cond}
-use mathlib.Core.List.{List, [], _∷_, _++_, map}
+use mathlib.Core.List.{List, [], _∷_, _++_}
 use Prim.Native.Nat.{ℕ, zero, suc, _+_, _≤_, _<_}
 use native.Mathlib.Omega.{arith}
 use lib.Dec.{eqb}
-use lib.ListN.{length, length-append}
+use lib.ListN.{length}
 use borrow.Author.Tests.{eqb-true, eqb-false}
 use Rattle.std.specs.declared.option.Option.{Option}
 use Rattle.std.specs.declared.option.Option.the-variants.{Some, None}
@@ -13,14 +13,14 @@ use Rattle.std.specs.shelf.Lists.{All}
 use Rattle.std.specs.shelf.Text.{sameBytes}
 use Rattle.std.proofs.shelf.Elements.{all-push}
 use Rattle.lock_text.specs.Spelling.{Lexeme}
-use Rattle.expression.specs.Tree.{Tree, Within, operands, items, max-levels}
+use Rattle.expression.specs.Tree.{Tree, Within, max-levels}
 use Rattle.expression_grammar.specs.Kinds.{Scope}
 use Rattle.expression_grammar.specs.Grammar as X
-use Rattle.expression_grammar.specs.Grammar.{Joined, Rules, Atom, Factor, Sum, Term, Expression, rules}
+use Rattle.expression_grammar.specs.Grammar.{Joined, Rules, Atom, Factor, Expression, rules}
 use Rattle.step_rule.specs.Programs.{Assignment, GoodTree, GoodAssignment, Spares, AssignedOnce}
-use Rattle.lock_grammar.specs.Names.{Name, one-later, index-of, assigned-items}
+use Rattle.lock_grammar.specs.Names.{Name, one-later, index-of}
 use Rattle.lock_grammar.specs.Grammar as G
-use Rattle.lock_grammar.specs.Grammar.{KnownName, Formula, Target, Assigned, Assignments}
+use Rattle.lock_grammar.specs.Grammar.{KnownName, Formula, Assigned, Assignments}
 
 -- a name found is one of those there
 

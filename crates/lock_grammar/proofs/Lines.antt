@@ -1,21 +1,19 @@
 -- Parts one after another, and what they promise of the program. Assumes nothing.
 use mathlib.Core.Path.{_≡_, refl, sym, ap, subst, _∙_}
-use mathlib.Core.List.{List, [], _∷_, _++_, map, append-assoc, append-nil}
-use Prim.Native.Nat.{ℕ, zero, suc, _+_, _-_, _≤_, _<_}
+use mathlib.Core.List.{List, [], _∷_, _++_, append-assoc, append-nil}
+use Prim.Native.Nat.{ℕ, zero, suc, _+_, _≤_, _<_}
 use native.Mathlib.Omega.{arith}
 use lib.ListN.{length, length-append}
 use Rattle.std.specs.declared.option.Option.{Option}
-use Rattle.std.specs.declared.option.Option.the-variants.{Some, None}
 use Rattle.std.specs.shelf.Lists.{All}
 use Rattle.std.proofs.shelf.Elements.{all-push}
-use Rattle.system.specs.declared.Region.{Region}
 use Rattle.lock_text.specs.Spelling.{Lexeme}
-use Rattle.step_rule.specs.Programs.{Program, Command, GoodClass, GoodCommand, DigitsBelow, max-processes, max-variables, max-locations, max-classes, max-commands, max-maximum}
-use Rattle.step_rule.specs.Codes.{WellFormed, value-radices}
+use Rattle.step_rule.specs.Programs.{Command, GoodClass, GoodCommand, DigitsBelow, max-maximum}
+use Rattle.step_rule.specs.Codes.{value-radices}
 use Rattle.step_rule.proofs.Laws.{meaning-lawful}
 use Rattle.lock_grammar.specs.Names.{Name, Variables, no-variables, Locations, no-locations}
 use Rattle.lock_grammar.specs.Grammar as G
-use Rattle.lock_grammar.specs.Grammar.{Repeated, Numeral, Class, Variable, Location, OneCommand, LockText}
+use Rattle.lock_grammar.specs.Grammar.{Repeated, Numeral, Class, Variable, Location, OneCommand}
 use Rattle.lock_grammar.specs.Laws.{Well-formed-programs, Lawful-systems}
 use Rattle.lock_grammar.proofs.Good.{known-below, formula-good, assignments-good}
 

@@ -1,17 +1,16 @@
 -- Facts for code that reads assignments without counting them. Assumes nothing.
-use mathlib.Core.Path.{_≡_, refl, sym, ap, subst, _∙_}
+use mathlib.Core.Path.{_≡_, refl, sym, ap, _∙_}
 use mathlib.Core.Bool.{Bool, true, false}
 use mathlib.Core.List.{List, [], _∷_, _++_}
-use Prim.Native.Nat.{ℕ, zero, suc, _+_, _≤_, _<_}
+use Prim.Native.Nat.{ℕ, zero, _≤_, _<_}
 use native.Mathlib.Omega.{arith}
 use lib.ListN.{length, length-append}
-use Rattle.std.specs.shelf.Lists.{All}
 use Rattle.lock_text.specs.Spelling.{Lexeme}
 use Rattle.token_stream.specs.Streams.{Stream, token, fault, end}
 use Rattle.expression.specs.Tree.{number}
-use Rattle.step_rule.specs.Programs.{Assignment, GoodAssignment, Spares, AssignedOnce}
+use Rattle.step_rule.specs.Programs.{Assignment}
 use Rattle.lock_grammar.specs.Names.{Name}
-use Rattle.lock_grammar.specs.Combinators.{Position, Result, Reader, then, next, Verdict, takes, refuses, taken-if, judged, by-verdict, one}
+use Rattle.lock_grammar.specs.Combinators.{Position, Reader, then, next, Verdict, takes, refuses, taken-if, judged, by-verdict, one}
 use Rattle.lock_grammar.specs.Tests.{declared, spared, target-by, unassigned, all-assigned, none-left}
 use Rattle.lock_grammar.specs.Reading.{assigned-to, assigning}
 use Rattle.lock_grammar.proofs.Telling.{known-told, spared-told}

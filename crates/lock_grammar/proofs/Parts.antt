@@ -1,10 +1,8 @@
 -- Laws of readers, proved once for each way to put them together. Assumes nothing.
 use mathlib.Core.Path.{_≡_, refl, sym, ap, subst, _∙_}
-use mathlib.Core.Bool.{Bool, true, false}
 use mathlib.Core.List.{List, [], _∷_, _++_}
-use Prim.Native.Nat.{ℕ, zero, suc, _+_, _-_, _≤_, _<_}
+use Prim.Native.Nat.{ℕ, zero, suc, _+_, _-_, _≤_}
 use native.Mathlib.Omega.{arith}
-use lib.ListN.{length}
 use Rattle.lock_text.specs.Spelling.{Lexeme}
 use Rattle.token_stream.specs.Streams.{Stream, token, fault, end}
 use Rattle.expression.specs.Tree.{max-items}

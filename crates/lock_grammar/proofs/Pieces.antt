@@ -1,33 +1,28 @@
 -- Each part of a lock text is read exactly as the grammar has it. Assumes nothing.
 use mathlib.Core.Path.{_≡_, refl, sym, ap, subst, _∙_}
-use mathlib.Core.Bool.{Bool, true, false}
-use mathlib.Core.List.{List, [], _∷_, _++_, append-assoc, append-nil}
-use Prim.Native.Nat.{ℕ, zero, suc, _+_, _-_, _≤_, _<_}
+use mathlib.Core.Bool.{Bool, true}
+use mathlib.Core.List.{List, [], _∷_, _++_, append-nil}
+use Prim.Native.Nat.{ℕ, _+_, _≤_}
 use native.Mathlib.Omega.{arith}
 use lib.ListN.{length}
-use Rattle.std.specs.declared.option.Option.{Option}
-use Rattle.std.specs.declared.option.Option.the-variants.{Some, None}
-use Rattle.system.specs.declared.Region.{Region}
-use Rattle.lock_text.specs.Spelling.{Lexeme, name, number, word, mark}
-use Rattle.lock_text.specs.declared.token.Word.the-variants as Words
-use Rattle.lock_text.specs.declared.token.Mark.the-variants as Marks
+use Rattle.lock_text.specs.Spelling.{Lexeme}
 use Rattle.token_stream.specs.Streams.{Stream}
 use Rattle.expression.specs.Tree.{Tree, items, operands, max-operands, max-levels, max-items}
 use Rattle.expression.specs.declared.Operator.{Operator}
-use Rattle.expression_grammar.specs.Kinds.{kind, sign}
+use Rattle.expression_grammar.specs.Kinds.{sign}
 use Rattle.expression_grammar.specs.Reading as E
-use Rattle.expression_grammar.specs.Laws.{Begins, front, a-token, NoOperator}
-use Rattle.expression_grammar.proofs.Facts.{begins-one, kind-of-sign}
+use Rattle.expression_grammar.specs.Laws.{Begins, a-token, NoOperator}
+use Rattle.expression_grammar.proofs.Facts.{begins-one}
 use Rattle.expression_grammar.proofs.Sound.{sound-reading}
 use Rattle.expression_grammar.proofs.Complete.{complete-reading}
-use Rattle.step_rule.specs.Programs.{Command, Assignment, max-maximum}
-use Rattle.lock_grammar.specs.Names.{Name, index-of, Variables, with-variable, Locations, with-location, assigned-items, command-items, item-count}
-use Rattle.lock_grammar.specs.Combinators.{Position, Result, refused, read, Reader, done, next, one, times}
-use Rattle.lock_grammar.specs.Reading.{variable, location, from-outcome, fresh, formula, on-comma, assigned-to, assigning, on-target, assignments, guarded, command}
+use Rattle.step_rule.specs.Programs.{max-maximum}
+use Rattle.lock_grammar.specs.Names.{Name, index-of, Variables, with-variable, Locations, with-location}
+use Rattle.lock_grammar.specs.Combinators.{Position, refused, read, Reader, done, next}
+use Rattle.lock_grammar.specs.Reading.{variable, location, from-outcome, fresh, formula}
 use Rattle.lock_grammar.specs.Grammar as G
-use Rattle.lock_grammar.specs.Grammar.{Repeated, Numeral, NewName, KnownName, RegionWord, Class, Variable, Location, Formula, Target, Assigned, Assignments, OneCommand}
-use Rattle.lock_grammar.proofs.Parts.{Relation, Got, LocalTo, Local, Sound, Complete, Reads, clash, reads-as, Done, stays, reads-done, One, is-token, reads-one, Seq, both, reads-next, reads-next-if, Leads, reads-times}
-use Rattle.lock_grammar.proofs.Telling.{IsWord, is-word, tells-word, IsMark, is-mark, tells-mark, tells-number, tells-new, tells-known, RegionIf, region-if, tells-region, tells-class, tells-target, Nothing, tells-none-left, First, a-target, no-target, tells-first, After, comma, stop, tells-after}
+use Rattle.lock_grammar.specs.Grammar.{Numeral, NewName, Variable, Location, Formula}
+use Rattle.lock_grammar.proofs.Parts.{Relation, LocalTo, Local, Sound, Reads, clash, reads-as, Done, stays, reads-done, One, is-token, reads-one, Seq, both, reads-next, reads-next-if, Leads}
+use Rattle.lock_grammar.proofs.Telling.{tells-number, tells-new, RegionIf, region-if, tells-region}
 use Rattle.lock_grammar.proofs.ExpressionLocal as L
 use Rattle.lock_grammar.proofs.ExpressionLocal.{read-local}
 

@@ -1,30 +1,29 @@
 -- Whole lock texts: the reading and the grammar agree. Assumes nothing.
 use mathlib.Core.Path.{_≡_, refl, sym, ap, subst, _∙_}
-use mathlib.Core.Bool.{Bool, true, false}
+use mathlib.Core.Bool.{true}
 use mathlib.Core.List.{List, [], _∷_, _++_}
-use Prim.Native.Nat.{ℕ, zero, suc, _+_, _-_, _≤_, _<_}
+use Prim.Native.Nat.{ℕ, suc, _+_, _-_, _≤_}
 use native.Mathlib.Omega.{arith}
-use lib.Dec.{leb}
 use lib.ListN.{length, replicate}
 use borrow.Author.Tests.{leb-true, le-leb}
 use Rattle.lock_text.specs.Spelling.{Lexeme}
 use Rattle.lock_text.specs.declared.token.Word.the-variants as Words
 use Rattle.token_stream.specs.Streams.{Stream, token, fault, end}
 use Rattle.expression.specs.Tree.{max-items}
-use Rattle.expression_grammar.specs.Laws.{Begins, Front, a-token, a-fault, the-end, front}
-use Rattle.step_rule.specs.Programs.{Program, Command, product, max-processes, max-variables, max-locations, max-classes, max-commands, max-states}
-use Rattle.step_rule.specs.Codes.{value-radices, state-count}
-use Rattle.lock_grammar.specs.Names.{Name, Variables, no-variables, Locations, no-locations, program, item-count}
-use Rattle.lock_grammar.specs.Combinators.{Position, Result, refused, read, Reader, then, next, times, ended, at-end}
-use Rattle.lock_grammar.specs.Reading.{variable, location, few-states, locations, commands, located, declarations, lock-text, text-read}
+use Rattle.expression_grammar.specs.Laws.{Begins, front}
+use Rattle.step_rule.specs.Programs.{Program, product, max-processes, max-variables, max-locations, max-classes, max-commands, max-states}
+use Rattle.step_rule.specs.Codes.{value-radices}
+use Rattle.lock_grammar.specs.Names.{Variables, no-variables, Locations, no-locations, program, item-count}
+use Rattle.lock_grammar.specs.Combinators.{Position, Result, refused, read, then, next, ended, at-end}
+use Rattle.lock_grammar.specs.Reading.{variable, location, few-states, locations, commands, located, lock-text, text-read}
 use Rattle.lock_grammar.specs.Grammar as G
 use Rattle.lock_grammar.specs.Grammar.{Repeated, Numeral, Variable, Location, OneCommand, LockText}
-use Rattle.lock_grammar.specs.Laws.{Means, ReadAs, Sound-texts, Complete-texts, One-program, First-fault-of-texts}
-use Rattle.lock_grammar.proofs.Parts.{Relation, LocalTo, Local, at, rest-of, with-rest, Reads, clash, reads-as, One, is-token, reads-one, Seq, both, then-read, next-local, Leads, reads-times}
+use Rattle.lock_grammar.specs.Laws.{Sound-texts, Complete-texts, One-program, First-fault-of-texts}
+use Rattle.lock_grammar.proofs.Parts.{Relation, LocalTo, Local, rest-of, with-rest, Reads, clash, One, is-token, reads-one, Seq, both, then-read, next-local, Leads, reads-times}
 use Rattle.lock_grammar.proofs.Telling.{IsWord, is-word, tells-word, tells-number}
 use Rattle.lock_grammar.proofs.Pieces.{seq, counts, Mapped, mapped, reads-mapped, free, reads-variable, LocationIf, reads-location-if, reads-location}
 use Rattle.lock_grammar.proofs.Commands.{reads-commands}
-use Rattle.lock_grammar.proofs.Lines.{numeral-low, numeral-high, repeated-push, Last, repeated-last, locations-even}
+use Rattle.lock_grammar.proofs.Lines.{numeral-low, repeated-push, repeated-last, locations-even}
 
 -- the parts of a text
 

@@ -1,17 +1,17 @@
 -- Texts that agree up to a place have the same tokens up to it. Assumes nothing.
 use mathlib.Core.Path.{_≡_, refl, sym, ap, subst, _∙_}
 use mathlib.Core.Bool.{Bool, true, false}
-use mathlib.Core.Logic.{_⊎_, inl, inr}
-use mathlib.Core.List.{List, [], _∷_, _++_}
-use Prim.Native.Nat.{ℕ, zero, suc, _+_, _-_, _≤_, _<_}
+use mathlib.Core.Logic.{inl, inr}
+use mathlib.Core.List.{List, [], _∷_}
+use Prim.Native.Nat.{ℕ, suc, _+_, _≤_, _<_}
 use native.Mathlib.Omega.{arith}
 use lib.Dec.{eqb, ltb}
-use lib.ListN.{length, getD, take, drop, length-take}
+use lib.ListN.{length, getD, take, length-take}
 use lib.Seq.{getD-take}
 use borrow.Author.Tests.{eqb-true, eqb-false, ltb-true, ltb-false}
 use Rattle.lock_text.specs.Characters.{is-blank, is-letter, is-digit, is-name-byte}
-use Rattle.lock_text.specs.Spelling.{Lexeme, mark-spelling, Each, NameShape, NumberShape, MarkShape, Shape}
-use Rattle.lock_text.specs.Tokens.{part, Blanks, TokenAt, NextToken, NoToken, Misspelt}
+use Rattle.lock_text.specs.Spelling.{Lexeme, mark-spelling, Each, Shape}
+use Rattle.lock_text.specs.Tokens.{part, Blanks, TokenAt, NextToken}
 use Rattle.lock_text.specs.declared.token.Mark.{Mark}
 use Rattle.lock_text.specs.declared.token.Mark.the-variants as Marks
 use Rattle.lock_text.proofs.Shapes.{part-at, part-first, part-length}
@@ -19,11 +19,9 @@ use Rattle.token_stream.specs.Streams.{Stream, token, fault, end, Streams}
 use Rattle.token_stream.specs.Computed.{stream-of}
 use Rattle.token_stream.proofs.Streaming.{streams-are-one, stream-of-text}
 use Rattle.expression_grammar.specs.Kinds.{place}
-use Rattle.expression_grammar.specs.Laws.{Begins, front}
-use Rattle.step_rule.specs.Programs.{Program}
-use Rattle.lock_grammar.specs.Combinators.{refused}
+use Rattle.expression_grammar.specs.Laws.{Begins}
 use Rattle.lock_grammar.specs.Reading.{text-read}
-use Rattle.lock_grammar.specs.Laws.{TextMeans, First-fault-by-bytes}
+use Rattle.lock_grammar.specs.Laws.{First-fault-by-bytes}
 use Rattle.lock_grammar.proofs.Texts.{first-fault, not-both}
 use Rattle.lock_grammar.proofs.Bytes.{read-exactly}
 

@@ -1,6 +1,6 @@
 -- Readers of a stream of tokens, and how they are put together. Assumes nothing.
 use mathlib.Core.Bool.{Bool, true, false}
-use Prim.Native.Nat.{ℕ, zero, suc, _+_}
+use Prim.Native.Nat.{ℕ, zero, suc}
 use Rattle.lock_text.specs.Spelling.{Lexeme}
 use Rattle.token_stream.specs.Streams.{Stream, token, fault, end}
 use Rattle.expression_grammar.specs.Kinds.{behind}

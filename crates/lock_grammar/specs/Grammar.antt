@@ -8,7 +8,6 @@ use Rattle.std.specs.shelf.Lists.{All}
 use Rattle.system.specs.declared.Region.{Region}
 use Rattle.system.specs.declared.Region.the-variants as Regions
 use Rattle.lock_text.specs.Spelling.{Lexeme, name, number, word, mark}
-use Rattle.lock_text.specs.declared.token.Word.{Word}
 use Rattle.lock_text.specs.declared.token.Word.the-variants as Words
 use Rattle.lock_text.specs.declared.token.Mark.the-variants as Marks
 use Rattle.expression.specs.Tree.{Tree, operands, max-operands, max-levels, max-items}
