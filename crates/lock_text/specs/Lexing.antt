@@ -11,7 +11,7 @@ use Rattle.std.specs.declared.option.Option.the-variants.{Some, None}
 use Rattle.std.specs.declared.result.Result.{Result}
 use Rattle.std.specs.declared.result.Result.the-variants.{Ok, Err}
 use Rattle.lock_text.specs.declared.refusal.TextRefusal.{TextRefusal}
-use Rattle.lock_text.specs.declared.refusal.TextRefusal.the-variants.{TooLong, Spelling}
+use Rattle.lock_text.specs.declared.refusal.TextRefusal.the-variants.{TooLong, Spelling, Unwanted, OutOfRange, Declared, Unknown, AssignedTwice, PastLimit, TooManyStates}
 use Rattle.lock_text.specs.Characters.{is-blank, is-digit, is-name-byte}
 use Rattle.lock_text.specs.Spelling.{Lexeme, mark-spelling}
 use Rattle.lock_text.specs.Tokens.{TokenAt, NextToken, NoToken, Misspelt, TokensOf, FirstMisspelt, content, max-text}
@@ -53,10 +53,18 @@ TokenFrom t a (Some p) = (p .start ≡ a) × TokenAt t a (content (p .token)) (p
 TokenFrom t a None = (l : Lexeme) (e : ℕ) → ¬ TokenAt t a l e
 
 -- What the lexer answers from the place a on: a text that is too long is refused before anything is looked at;
--- else the next token with its place, or that only blanks are left, or the first byte where no token stands.
+-- else the next token with its place, or that only blanks are left, or the first byte where no token stands. The
+-- lexer has no other refusal.
 abbrev pub Lexes : List ℕ → ℕ → Result (Option Placed) TextRefusal → Type 0
 Lexes t a (Err TooLong) = max-text < length t
 Lexes t a (Err (Spelling s)) = (length t ≤ max-text) × Misspelt t a s
+Lexes t a (Err (Unwanted s)) = ⊥
+Lexes t a (Err (OutOfRange s)) = ⊥
+Lexes t a (Err (Declared s)) = ⊥
+Lexes t a (Err (Unknown s)) = ⊥
+Lexes t a (Err (AssignedTwice s)) = ⊥
+Lexes t a (Err (PastLimit s)) = ⊥
+Lexes t a (Err (TooManyStates s)) = ⊥
 Lexes t a (Ok None) = (length t ≤ max-text) × NoToken t a
 Lexes t a (Ok (Some p)) = (length t ≤ max-text) × NextToken t a (content (p .token)) (p .start) (p .end)
 
@@ -64,4 +72,11 @@ Lexes t a (Ok (Some p)) = (length t ≤ max-text) × NextToken t a (content (p .
 abbrev pub CountsTokens : List ℕ → Result ℕ TextRefusal → Type 0
 CountsTokens t (Err TooLong) = max-text < length t
 CountsTokens t (Err (Spelling s)) = (length t ≤ max-text) × FirstMisspelt t s
+CountsTokens t (Err (Unwanted s)) = ⊥
+CountsTokens t (Err (OutOfRange s)) = ⊥
+CountsTokens t (Err (Declared s)) = ⊥
+CountsTokens t (Err (Unknown s)) = ⊥
+CountsTokens t (Err (AssignedTwice s)) = ⊥
+CountsTokens t (Err (PastLimit s)) = ⊥
+CountsTokens t (Err (TooManyStates s)) = ⊥
 CountsTokens t (Ok n) = (length t ≤ max-text) × ((ls : List Lexeme) × TokensOf t ls × (length ls ≡ n))

@@ -1,0 +1,4 @@
+pub mod Facts
+pub mod Sound
+pub mod Complete
+pub mod Local

@@ -1,0 +1,4 @@
+pub mod Digits
+pub mod Remainders
+pub mod Rules
+pub mod Laws
