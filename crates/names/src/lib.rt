@@ -1,0 +1,5 @@
+//! The names that a lock text declares.
+mod list;
+mod table;
+
+pub use list::NameList;
