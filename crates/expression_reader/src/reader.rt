@@ -1,0 +1,19 @@
+//! Where the reading of a text's expressions stands.
+ghost use Prim.Native.Nat.{_≤_};
+use expression::Item;
+
+/// The place in the text, the counts that have limits, and the items of the expressions so far.
+pub struct Reader {
+    /// Where the next token is looked for.
+    pub at: usize,
+    /// How many numbers and variables the expression has so far.
+    pub operands: usize,
+    /// How many items the text has so far, each counted at its own token.
+    pub counted: usize,
+    /// How many items are written.
+    pub written: usize,
+    /// The items, those of each expression in postfix order.
+    pub items: [Item; 4096],
+    ghost fits: { written ≤ counted },
+    ghost room: { counted ≤ 4096 },
+}
