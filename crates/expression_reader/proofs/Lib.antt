@@ -1,3 +1,4 @@
 pub mod Ahead
 pub mod Values
 pub mod Readings
+pub mod Entries
