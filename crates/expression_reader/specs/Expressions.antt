@@ -2,7 +2,7 @@
 use mathlib.Core.Path.{_≡_}
 use mathlib.Core.List.{List, _++_}
 use Prim.Native.Nat.{ℕ, _+_, _<_, _≤_}
-use lib.ListN.{length, getD}
+use lib.ListN.{length, getD, replicate}
 use Rattle.std.specs.declared.result.Result.{Result}
 use Rattle.std.specs.declared.result.Result.the-variants.{Ok, Err}
 use Rattle.lock_text.specs.Spelling.{Lexeme}
@@ -10,8 +10,9 @@ use Rattle.lock_text.specs.Tokens.{max-text}
 use Rattle.lock_text.specs.declared.refusal.TextRefusal.{TextRefusal}
 use Rattle.lock_text.specs.declared.refusal.TextRefusal.the-variants.{TooLong}
 use Rattle.token_stream.specs.Streams.{Stream, Streams}
-use Rattle.expression.specs.Tree.{Tree, items, max-levels}
+use Rattle.expression.specs.Tree.{Tree, items, max-levels, max-items}
 use Rattle.expression.specs.declared.Item.{Item}
+use Rattle.expression.specs.declared.Item.the-variants.{Number}
 use Rattle.expression_grammar.specs.Kinds.{Scope}
 use Rattle.expression_grammar.specs.Reading.{State, read, expression, levels}
 use Rattle.expression_grammar.specs.Grammar.{Expression, rules}
@@ -53,3 +54,16 @@ CameTo scope t x r (Err f) r′ = RefusedExpression scope x r f
 pub record ReadsExpression {U : Type 0} (scope : Scope) (t : List ℕ) (r : Reader) (o : Result U TextRefusal) (r′ : Reader) : Type 0 where
   pub too-long : max-text < length t → o ≡ Err TooLong
   pub reads : length t ≤ max-text → (x : Stream) → Streams t (r .at) x → CameTo scope t x r o r′
+
+-- At the start of a text, with no items: each place for one holds the number 0.
+pub record Blank (r : Reader) : Type 0 where
+  pub at : r .at ≡ 0
+  pub operands : r .operands ≡ 0
+  pub counted : r .counted ≡ 0
+  pub written : r .written ≡ 0
+  pub items : r .items ≡ replicate max-items (Number 0)
+
+-- After a refusal the reader is blank.
+abbrev pub BlankIfRefused : {U : Type 0} → Result U TextRefusal → Reader → Type 0
+BlankIfRefused (Ok u) r′ = Unit {0}
+BlankIfRefused (Err f) r′ = Blank r′

@@ -1,11 +1,6 @@
 //! Where a reader of texts begins.
-ghost use mathlib.Core.Path.{_≡_};
-ghost use mathlib.Core.List.{[]};
-ghost use Prim.Native.Nat.{ℕ, _<_};
-ghost use lib.ListN.{getD, replicate};
-ghost use Rattle.expression.specs.declared.Item.the-variants.{Number};
 ghost use Rattle.expression_reader.specs.Ahead.{scope-of};
-ghost use Rattle.expression_reader.specs.Expressions.{ReadsExpression};
+ghost use Rattle.expression_reader.specs.Expressions.{Blank, BlankIfRefused, ReadsExpression};
 use super::parse::expression_of;
 use super::reader::Reader;
 use expression::Item;
@@ -19,11 +14,7 @@ pub const MAX_LEVELS: usize = 8;
 impl Reader {
     /// At the start of a text, with no items. Each place for an item holds the number 0.
     pub fn new() -> Reader
-        ensures at { λ r. ⌜ r .at ≡ 0 ⌝ }
-        ensures operands { λ r. ⌜ r .operands ≡ 0 ⌝ }
-        ensures counted { λ r. ⌜ r .counted ≡ 0 ⌝ }
-        ensures written { λ r. ⌜ r .written ≡ 0 ⌝ }
-        ensures items { λ r. ⌜ r .items ≡ replicate 4096 (Number 0) ⌝ }
+        ensures { λ r. ⌜ Blank r ⌝ }
     {
         Reader {
             at: 0,
@@ -35,17 +26,31 @@ impl Reader {
     }
 
     /// Reads the expression from the reader's place on, where the names are those of the variables, and writes its
-    /// items. The reader then stands behind the expression's last token.
+    /// items. The reader then stands behind the expression's last token. A refusal leaves it blank.
     pub fn expression(&mut self, text: &[u8], names: &NameList) -> Result<(), TextRefusal>
-        ensures { λ o. ⌜ ReadsExpression (scope-of (now (names .entry))) (now (text .entry)) (now (self .entry)) o (now (self .exit)) ⌝ }
+        ensures reads { λ o. ⌜ ReadsExpression (scope-of (now (names .entry))) (now (text .entry)) (now (self .entry)) o (now (self .exit)) ⌝ }
+        ensures blank { λ o. ⌜ BlankIfRefused o (now (self .exit)) ⌝ }
     {
-        if text.len() > MAX_TEXT {
-            return Err(TextRefusal::TooLong);
+        match from_place(text, names, self) {
+            Ok(()) => Ok(()),
+            Err(refusal) => {
+                *self = Reader::new();
+                Err(refusal)
+            }
         }
-        if self.at > text.len() {
-            return Err(TextRefusal::Unwanted(text.len()));
-        }
-        self.operands = 0;
-        expression_of(text, names, self, MAX_LEVELS)
     }
+}
+
+/// Reads the expression from the reader's place on.
+fn from_place(text: &[u8], names: &NameList, r: &mut Reader) -> Result<(), TextRefusal>
+    ensures { λ o. ⌜ ReadsExpression (scope-of (now (names .entry))) (now (text .entry)) (now (r .entry)) o (now (r .exit)) ⌝ }
+{
+    if text.len() > MAX_TEXT {
+        return Err(TextRefusal::TooLong);
+    }
+    if r.at > text.len() {
+        return Err(TextRefusal::Unwanted(text.len()));
+    }
+    r.operands = 0;
+    expression_of(text, names, r, MAX_LEVELS)
 }

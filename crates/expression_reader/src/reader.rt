@@ -3,6 +3,7 @@ ghost use Prim.Native.Nat.{_≤_};
 use expression::Item;
 
 /// The place in the text, the counts that have limits, and the items of the expressions so far.
+#[derive(Drop)]
 pub struct Reader {
     /// Where the next token is looked for.
     pub at: usize,

@@ -2,6 +2,7 @@
 ghost use Prim.Native.Nat.{_≤_};
 
 /// Names in the order of their declaration, at most 16. They borrow their bytes from the text.
+#[derive(Drop)]
 pub struct NameList<'a> {
     pub names: [&'a [u8]; 16],
     pub count: usize,
