@@ -7,6 +7,7 @@ mod reader;
 mod steps;
 
 pub use entry::MAX_LEVELS;
+pub use number::MAX_NUMBER;
 pub use number::byte_value;
 pub use reader::Reader;
 pub use steps::MAX_ITEMS;

@@ -7,20 +7,20 @@ use Rattle.std.proofs.shelf.Lists.{take-all}
 use Rattle.expression_grammar.specs.Kinds.{one-digit-more, decimal}
 use Rattle.expression_reader.proofs.Values.{StandsFor, digit-more, digit-kept, value-small, value-large}
 use Rattle.expression_reader.proofs.number.byte_value.Needs as need
-use Rattle.expression_reader.proofs.number.byte_value.Needs.{then-value-lt256, else-value-lt256}
+use Rattle.expression_reader.proofs.number.byte_value.Needs.{then-value-le-MAX-NUMBER, else-value-le-MAX-NUMBER}
 
 pub loop-digit-again : need.loop-digit-again
 loop-digit-again c =
     let more = folded-more one-digit-more 0 (c .args .digits .now) (c .loop-digit .digit-index) 0 (c .loop-digit-test .taken) in
-    elim (c .if-value-lt256 .came) [
-      | then-value-lt256 w ↦ digit-more (c .loop-digit .value) _ (w .saturating-sub .result) _ _ (c .loop-digit .inv) (w .if-value-lt256 .taken) (w .saturating-sub .ok) (w .value-is) (more ∙ ap (λ x. decimal (take (c .loop-digit .digit-index) (c .args .digits .now)) * 10 + x) (let s : getD (c .args .digits .now) (c .loop-digit .digit-index) 0 - 48 ≡ w .saturating-sub .result = cc in s))
-      | else-value-lt256 w ↦ digit-kept (c .loop-digit .value) _ _ _ _ (c .loop-digit .inv) (w .if-value-lt256 .left) (w .value-is) more
+    elim (c .if-value-le-MAX-NUMBER .came) [
+      | then-value-le-MAX-NUMBER w ↦ digit-more (c .loop-digit .value) _ (w .saturating-sub .result) _ _ (c .loop-digit .inv) (w .if-value-le-MAX-NUMBER .taken) (w .saturating-sub .ok) (w .value-is) (more ∙ ap (λ x. decimal (take (c .loop-digit .digit-index) (c .args .digits .now)) * 10 + x) (let s : getD (c .args .digits .now) (c .loop-digit .digit-index) 0 - 48 ≡ w .saturating-sub .result = cc in s))
+      | else-value-le-MAX-NUMBER w ↦ digit-kept (c .loop-digit .value) _ _ _ _ (c .loop-digit .inv) (w .if-value-le-MAX-NUMBER .left) (w .value-is) more
     ]
 
-pub returns-then-value-lt256-2 : need.returns-then-value-lt256-2
-returns-then-value-lt256-2 c =
-    value-small _ _ (subst (λ w. StandsFor (c .loop-digit .value) (decimal w)) (take-all _ _ (c .loop-digit-test .left)) (c .loop-digit .inv)) (c .if-value-lt256-2 .taken)
+pub returns-then-value-le-MAX-NUMBER-2 : need.returns-then-value-le-MAX-NUMBER-2
+returns-then-value-le-MAX-NUMBER-2 c =
+    value-small _ _ (subst (λ w. StandsFor (c .loop-digit .value) (decimal w)) (take-all _ _ (c .loop-digit-test .left)) (c .loop-digit .inv)) (c .if-value-le-MAX-NUMBER-2 .taken)
 
-pub returns-else-value-lt256-2 : need.returns-else-value-lt256-2
-returns-else-value-lt256-2 c =
-    value-large _ _ (subst (λ w. StandsFor (c .loop-digit .value) (decimal w)) (take-all _ _ (c .loop-digit-test .left)) (c .loop-digit .inv)) (c .if-value-lt256-2 .left)
+pub returns-else-value-le-MAX-NUMBER-2 : need.returns-else-value-le-MAX-NUMBER-2
+returns-else-value-le-MAX-NUMBER-2 c =
+    value-large _ _ (subst (λ w. StandsFor (c .loop-digit .value) (decimal w)) (take-all _ _ (c .loop-digit-test .left)) (c .loop-digit .inv)) (c .if-value-le-MAX-NUMBER-2 .left)
