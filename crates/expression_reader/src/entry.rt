@@ -2,6 +2,7 @@
 ghost use Rattle.expression_reader.specs.Ahead.{scope-of};
 ghost use Rattle.expression_reader.specs.Expressions.{Blank, BlankIfRefused, ReadsExpression};
 use super::parse::expression_of;
+use super::reader::MAX_ITEMS;
 use super::reader::Reader;
 use expression::Item;
 use lock_text::MAX_TEXT;
@@ -21,7 +22,7 @@ impl Reader {
             operands: 0,
             counted: 0,
             written: 0,
-            items: [Item::Number(0); 4096],
+            items: [Item::Number(0); MAX_ITEMS],
         }
     }
 

@@ -9,6 +9,6 @@ mod steps;
 pub use entry::MAX_LEVELS;
 pub use number::MAX_NUMBER;
 pub use number::byte_value;
+pub use reader::MAX_ITEMS;
 pub use reader::Reader;
-pub use steps::MAX_ITEMS;
 pub use steps::MAX_OPERANDS;

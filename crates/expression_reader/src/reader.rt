@@ -1,6 +1,10 @@
 //! Where the reading of a text's expressions stands.
 ghost use Prim.Native.Nat.{_≤_};
+ghost use Rattle.expression.specs.Tree.{max-items};
 use expression::Item;
+
+/// The most items of a text.
+pub const MAX_ITEMS: usize = 4096;
 
 /// The place in the text, the counts that have limits, and the items of the expressions so far.
 #[derive(Drop)]
@@ -14,7 +18,7 @@ pub struct Reader {
     /// How many items are written.
     pub written: usize,
     /// The items, those of each expression in postfix order.
-    pub items: [Item; 4096],
+    pub items: [Item; MAX_ITEMS],
     ghost fits: { written ≤ counted },
-    ghost room: { counted ≤ 4096 },
+    ghost room: { counted ≤ max-items },
 }

@@ -10,15 +10,13 @@ ghost use Rattle.expression_reader.specs.Ahead.{scope-of};
 ghost use Rattle.expression_reader.specs.State.{Unwanted-at, JoinsAt, Counts, Passed, Pushed, OperandRead, Closes};
 use super::look::Seen;
 use super::look::look;
+use super::reader::MAX_ITEMS;
 use super::reader::Reader;
 use expression::Item;
 use expression::Operator;
 use expression_grammar::Kind;
 use lock_text::TextRefusal;
 use names::NameList;
-
-/// The most items of a text.
-pub const MAX_ITEMS: usize = 4096;
 
 /// The most numbers and variables of an expression.
 pub const MAX_OPERANDS: usize = 32;

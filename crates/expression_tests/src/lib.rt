@@ -106,9 +106,18 @@ mod tests {
         check_eq(reader.operands, 32)?;
         check_eq(reader.written, 63)?;
         let more: [(&[u8], TextRefusal); 3] = [
-            (b"1+1+1+1+1+1+1+1+1+1+1+1+1+1+1+1+1+1+1+1+1+1+1+1+1+1+1+1+1+1+1+1+1", TextRefusal::PastLimit(64)),
-            (b"1+1+1+1+1+1+1+1+1+1+1+1+1+1+1+1+1+1+1+1+1+1+1+1+1+1+1+1+1+1+1+1+256", TextRefusal::OutOfRange(64)),
-            (b"1+1+1+1+1+1+1+1+1+1+1+1+1+1+1+1+1+1+1+1+1+1+1+1+1+1+1+1+1+1+1+1+x", TextRefusal::Unknown(64)),
+            (
+                b"1+1+1+1+1+1+1+1+1+1+1+1+1+1+1+1+1+1+1+1+1+1+1+1+1+1+1+1+1+1+1+1+1",
+                TextRefusal::PastLimit(64),
+            ),
+            (
+                b"1+1+1+1+1+1+1+1+1+1+1+1+1+1+1+1+1+1+1+1+1+1+1+1+1+1+1+1+1+1+1+1+256",
+                TextRefusal::OutOfRange(64),
+            ),
+            (
+                b"1+1+1+1+1+1+1+1+1+1+1+1+1+1+1+1+1+1+1+1+1+1+1+1+1+1+1+1+1+1+1+1+x",
+                TextRefusal::Unknown(64),
+            ),
         ];
         for (text, refusal) in more {
             let mut reader = Reader::new();
@@ -128,7 +137,10 @@ mod tests {
         }
         check_eq(reader.counted, 4095)?;
         reader.at = 0;
-        check_eq(reader.expression(b"1+1", &names), Err(TextRefusal::PastLimit(1)))?;
+        check_eq(
+            reader.expression(b"1+1", &names),
+            Err(TextRefusal::PastLimit(1)),
+        )?;
         check_eq(reader.counted, 0)
     }
 }

@@ -2,4 +2,5 @@
 mod list;
 mod table;
 
+pub use list::MAX_NAMES;
 pub use list::NameList;

@@ -1,10 +1,14 @@
 //! A list of names.
 ghost use Prim.Native.Nat.{_≤_};
+ghost use Rattle.names.specs.Limits.{max-names};
+
+/// The most names of a list.
+pub const MAX_NAMES: usize = 16;
 
 /// Names in the order of their declaration, at most 16. They borrow their bytes from the text.
 #[derive(Drop)]
 pub struct NameList<'a> {
-    pub names: [&'a [u8]; 16],
+    pub names: [&'a [u8]; MAX_NAMES],
     pub count: usize,
-    ghost few: { count ≤ 16 },
+    ghost few: { count ≤ max-names },
 }

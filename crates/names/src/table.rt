@@ -5,7 +5,9 @@ ghost use Prim.Native.Nat.{_≤_};
 ghost use lib.Dec.{ltb};
 ghost use lib.ListN.{length};
 ghost use mathlib.Core.Bool.{true, false};
+ghost use Rattle.names.specs.Limits.{max-names};
 ghost use Rattle.names.specs.Listed.{listed, index-of};
+use super::list::MAX_NAMES;
 use super::list::NameList;
 
 impl<'a> NameList<'a> {
@@ -15,7 +17,7 @@ impl<'a> NameList<'a> {
     {
         let none: &[u8] = b"";
         NameList {
-            names: [none; 16],
+            names: [none; MAX_NAMES],
             count: 0,
         }
     }
@@ -35,11 +37,11 @@ impl<'a> NameList<'a> {
 
     /// Declares one more name, behind the others, unless there are 16 already.
     pub fn declare(&mut self, name: &'a [u8]) -> bool
-        ensures told { λ r. ⌜ r ≡ ltb (length (listed (now (self .entry)))) 16 ⌝ }
+        ensures told { λ r. ⌜ r ≡ ltb (length (listed (now (self .entry)))) max-names ⌝ }
         ensures full { λ r. ⌜ (r ≡ false → listed (now (self .exit)) ≡ listed (now (self .entry))) ⌝ }
         ensures added { λ r. ⌜ (r ≡ true → listed (now (self .exit)) ≡ listed (now (self .entry)) ++ (now (name .entry) ∷ [])) ⌝ }
     {
-        if self.count >= 16 {
+        if self.count >= MAX_NAMES {
             return false;
         }
         self.names[self.count] = name;
