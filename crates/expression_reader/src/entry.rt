@@ -1,6 +1,12 @@
 //! Where a reader of texts begins.
+ghost use Prim.Native.Nat.{_≤_};
+ghost use lib.ListN.{length};
+ghost use Rattle.lock_text.specs.Tokens.{max-text};
+ghost use Rattle.expression.specs.Tree.{max-levels};
+ghost use Rattle.expression_grammar.specs.Reading.{expression, levels};
 ghost use Rattle.expression_reader.specs.Ahead.{scope-of};
 ghost use Rattle.expression_reader.specs.Expressions.{Blank, BlankIfRefused, ReadsExpression};
+ghost use Rattle.expression_reader.specs.State.{state, Reads};
 use super::parse::expression_of;
 use super::reader::MAX_ITEMS;
 use super::reader::Reader;
@@ -53,5 +59,14 @@ fn from_place(text: &[u8], names: &NameList, r: &mut Reader) -> Result<(), TextR
         return Err(TextRefusal::Unwanted(text.len()));
     }
     r.operands = 0;
+    whole(text, names, r)
+}
+
+/// An expression that no level is open around.
+fn whole(text: &[u8], names: &NameList, r: &mut Reader) -> Result<(), TextRefusal>
+    requires short { ⌜ length (now text) ≤ max-text ⌝ }
+    requires within { ⌜ now r .at ≤ length (now text) ⌝ }
+    ensures { λ o. ⌜ Reads (now (text .entry)) (now (r .entry)) (expression (scope-of (now (names .entry))) (levels (scope-of (now (names .entry))) max-levels) (state (now (text .entry)) (now (r .entry)))) o (now (r .exit)) ⌝ }
+{
     expression_of(text, names, r, MAX_LEVELS)
 }

@@ -13,7 +13,9 @@ use Rattle.std.proofs.shelf.Equals.{sameBytes-decides}
 use Rattle.std.proofs.shelf.Tests.{cases-bool}
 use Rattle.std.specs.declared.option.Option.{Option}
 use Rattle.std.specs.declared.option.Option.the-variants.{Some, None}
-use Rattle.names.specs.Listed.{index-of, one-further}
+use Rattle.std.proofs.shelf.Lists.{length-map, length-take-le}
+use Rattle.names.specs.Listed.{listed, index-of, one-further}
+use Rattle.names.specs.declared.list.NameList.{NameList}
 
 apart : (v w : List ℕ) → (v ≡ w → ⊥) → sameBytes v w ≡ false
 apart v w n = ⊎-elim (λ y. absurd (n (sameBytes-decides v w .0 y))) (λ no. no) (cases-bool (sameBytes v w))
@@ -35,3 +37,9 @@ name-at ps zero k d h l = absurd (let f : ⊥ = omega arith in f)
 name-at [] (suc n) k d h l = absurd (let f : ⊥ = omega arith in f)
 name-at (p ∷ ps) (suc n) zero d h l = refl
 name-at (p ∷ ps) (suc n) (suc k) d h l = name-at ps n k d (omega arith) (omega arith)
+
+pub listed-length : (t : NameList) → length (listed t) ≡ t .count
+listed-length t =
+    let few = t .few in
+    let long = t .long in
+    length-map (take (t .count) (t .names)) (λ p. p .now) ∙ length-take-le (t .count) (t .names) (omega arith)

@@ -12,5 +12,5 @@ returns-then-r-text c = record {
 pub returns : need.returns
 returns c = record {
   too-long = λ h. let l = c .if-text-gt-MAX-TEXT .left in absurd (omega arith);
-  reads = λ h x s. came-to _ _ (c .args .r .now) _ x (c .if-r-text .left) s refl refl refl refl refl (c .expression-of .result) (c .expression-of .last .r) (c .expression-of .ensures);
+  reads = λ h x s. came-to _ _ (c .args .r .now) _ x (c .if-r-text .left) s refl refl refl refl refl (c .whole .result) (c .whole .last .r) (c .whole .ensures);
 }
