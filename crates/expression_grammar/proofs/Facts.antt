@@ -127,7 +127,7 @@ says scope (number w) = says-number scope w _ refl
 says scope (word k) = says-word scope k
 says scope (mark m) = says-mark scope m
 
-abbrev OfToken : Kind → Type 0
+abbrev pub OfToken : Kind → Type 0
 OfToken (Number n) = Unit {0}
 OfToken Large = Unit {0}
 OfToken (Variable v) = Unit {0}
@@ -140,7 +140,7 @@ OfToken Other = ⊥
 OfToken Misspelt = ⊥
 
 -- a kind that is neither the end's nor a fault's is a token's
-stands : (scope : Scope) (x : Stream) (c : Kind) → seen scope x ≡ c → OfToken c → (l : Lexeme) × (x ≡ token l (place x) (behind x)) × Says scope c l
+pub stands : (scope : Scope) (x : Stream) (c : Kind) → seen scope x ≡ c → OfToken c → (l : Lexeme) × (x ≡ token l (place x) (behind x)) × Says scope c l
 stands scope (token l s y) c h n = (l, refl, subst (λ (k : Kind). Says scope k l) h (says scope l))
 stands scope (fault s) c h n = absurd (subst OfToken (sym h) n)
 stands scope (end s) c h n = absurd (subst OfToken (sym h) n)

@@ -57,10 +57,14 @@ One-tree =
     (scope : Scope) (n : ℕ) (ls : List Lexeme) (e e′ : Tree) → Expression scope (rules scope n) e ls → Expression scope (rules scope n) e′ ls →
     operands e ≤ max-operands → operands e′ ≤ max-operands → length (items e) ≤ max-items → length (items e′) ≤ max-items → e ≡ e′
 
+-- No stream with the same tokens as that of s, up to and through the one in front of r, begins with an expression
+-- within the limits.
+abbrev pub NoneThrough : Scope → ℕ → State → Stream → Type 0
+NoneThrough scope n s r =
+    (before : List Lexeme) × Begins (s .rest) before r × ((x q : Stream) (e : Tree) (ls : List Lexeme) (y : Stream) → Begins x before q → front q ≡ front r →
+    Expression scope (rules scope n) e ls → Begins x ls y → NoOperator y → Fits s e → ⊥)
+
 -- Where the reading refuses at a token, no stream with the same tokens up to and through that one begins with an
 -- expression within the limits.
 abbrev pub First-fault : Type 0
-First-fault =
-    (scope : Scope) (n : ℕ) (s : State) (m : ℕ) (r : Stream) → expression scope (levels scope n) s ≡ refused m r →
-    (before : List Lexeme) × Begins (s .rest) before r × ((x q : Stream) (e : Tree) (ls : List Lexeme) (y : Stream) → Begins x before q → front q ≡ front r →
-    Expression scope (rules scope n) e ls → Begins x ls y → NoOperator y → Fits s e → ⊥)
+First-fault = (scope : Scope) (n : ℕ) (s : State) (m : ℕ) (r : Stream) → expression scope (levels scope n) s ≡ refused m r → NoneThrough scope n s r

@@ -257,7 +257,7 @@ at t a s rest h st blanks nb goes = by (cases-lt s (length t))
         subst (λ (v : List ℕ). Streams t a (stream-at s v rest)) (sym (drop-all s t all))
         ((λ i ai ie it. blanks i ai (omega arith) it), omega arith)
 
-from : (f : ℕ) (t : List ℕ) (a : ℕ) → a ≤ length t → length t - a < f → Streams t a (stream-from f a (drop a t))
+pub from : (f : ℕ) (t : List ℕ) (a : ℕ) → a ≤ length t → length t - a < f → Streams t a (stream-from f a (drop a t))
 unfolding stream-from
 from zero t a h few = absurd (let z : ⊥ = omega arith in z)
 from (suc f) t a h few =

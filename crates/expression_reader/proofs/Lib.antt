@@ -1,0 +1,4 @@
+pub mod Ahead
+pub mod Values
+pub mod Readings
+pub mod Entries

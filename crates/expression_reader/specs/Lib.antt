@@ -1,0 +1,4 @@
+pub mod Numbers
+pub mod Ahead
+pub mod State
+pub mod Expressions
