@@ -1,0 +1,4 @@
+pub mod Storage
+pub mod Denotes
+pub mod Sounds
+pub mod Laws
