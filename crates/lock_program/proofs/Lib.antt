@@ -4,3 +4,6 @@ pub mod Assigning
 pub mod Nexts
 pub mod Growing
 pub mod Placing
+pub mod Lasts
+pub mod Adding
+pub mod Sparing
