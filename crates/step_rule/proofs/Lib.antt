@@ -2,3 +2,4 @@ pub mod Digits
 pub mod Remainders
 pub mod Rules
 pub mod Laws
+pub mod Props

@@ -55,6 +55,17 @@ pub record Program : Type 0 where
   pub classes : ℕ
   pub commands : List Command
 
+-- The program that has only been declared: no classes and no commands.
+abbrev pub declared : ℕ → List ℕ → List ℕ → List Region → Program
+declared processes maxima initials locations = record {
+  processes = processes;
+  maxima = maxima;
+  initials = initials;
+  locations = locations;
+  classes = 0;
+  commands = [];
+}
+
 -- The expression is over the first n variables, and within the limit on its operands.
 abbrev pub GoodTree : ℕ → Tree → Type 0
 GoodTree n e = Within n e × (operands e ≤ max-operands)

@@ -1,0 +1,9 @@
+pub mod States
+pub mod Entries
+pub mod Assigning
+pub mod Nexts
+pub mod Growing
+pub mod Placing
+pub mod Lasts
+pub mod Adding
+pub mod Sparing
