@@ -363,6 +363,26 @@ mod tests {
         ring(1, &bytes)
     }
 
+    // The four bytes from `at` on of the ring's certificate are FF.
+    fn greatest_count(at: usize) -> Answer {
+        let mut bytes = RING;
+        if at < 27 {
+            bytes[at] = 255;
+            bytes[at + 1] = 255;
+            bytes[at + 2] = 255;
+            bytes[at + 3] = 255;
+        }
+        ring(1, &bytes)
+    }
+
+    // A count means nothing until the bytes are there: the first fault behind it decides.
+    #[test]
+    fn counts_mean_nothing_alone() -> Result<(), Fail> {
+        check_eq(greatest_count(1), (23, 0, 17, 0))?;
+        check_eq(greatest_count(17), (21, 0, 30, 0))?;
+        check_eq(ring(1, &[1, 255, 255, 255, 255]), (21, 0, 5, 0))
+    }
+
     #[test]
     fn the_ring_is_certified() -> Result<(), Fail> {
         check_eq(ring(1, &RING), (0, 0, 0, 0))?;
