@@ -1,0 +1,10 @@
+/// The clauses of the rank rule.
+#[derive(Clone, Copy)]
+pub enum Clause {
+    StartListed,
+    NoListedClash,
+    SuccessorsListed,
+    RowsExact,
+    ClassesEnabled,
+    RanksFall,
+}

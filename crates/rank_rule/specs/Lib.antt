@@ -1,0 +1,3 @@
+pub mod Certificate
+pub mod Rule
+pub mod Claims
