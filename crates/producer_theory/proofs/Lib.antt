@@ -1,0 +1,5 @@
+pub mod Members
+pub mod Short
+pub mod Accepted
+pub mod Tour
+pub mod Truth

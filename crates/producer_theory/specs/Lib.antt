@@ -1,0 +1,4 @@
+pub mod Waiting
+pub mod Produced
+pub mod Rounds
+pub mod Claims
