@@ -1,4 +1,5 @@
 pub mod Waiting
 pub mod Produced
 pub mod Rounds
+pub mod Ranking
 pub mod Claims
