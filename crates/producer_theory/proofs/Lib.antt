@@ -5,3 +5,5 @@ pub mod Tour
 pub mod Truth
 pub mod Bits
 pub mod Ranking
+pub mod Regraph
+pub mod Tables

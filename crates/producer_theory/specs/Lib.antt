@@ -2,4 +2,5 @@ pub mod Waiting
 pub mod Produced
 pub mod Rounds
 pub mod Ranking
+pub mod Tables
 pub mod Claims
