@@ -6,4 +6,5 @@ pub mod Truth
 pub mod Bits
 pub mod Ranking
 pub mod Regraph
+pub mod Listing
 pub mod Tables
