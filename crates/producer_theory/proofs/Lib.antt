@@ -1,0 +1,10 @@
+pub mod Members
+pub mod Short
+pub mod Accepted
+pub mod Tour
+pub mod Truth
+pub mod Bits
+pub mod Ranking
+pub mod Regraph
+pub mod Listing
+pub mod Tables
