@@ -20,24 +20,24 @@ use Rattle.expression_grammar.specs.declared.kind.Kind.the-variants.{Number, L
 use Rattle.expression_grammar.proofs.Facts.{begins-on, begins-split, begins-size, begins-one, begins-with, same-front, same-kind, joining-tells, no-operator, operator-here, not-here, open-here, close-here, number-here, variable-here}
 use Rattle.expression_grammar.proofs.Complete.{complete-reading}
 
-abbrev at : State → Stream → State
+abbrev pub at : State → Stream → State
 at s x = record { rest = x; operands = s .operands; items = s .items }
 
-abbrev rest-of : Outcome → Stream
+abbrev pub rest-of : Outcome → Stream
 rest-of (refused n x) = x
 rest-of (read e s) = s .rest
 
-abbrev with-rest : Outcome → Stream → Outcome
+abbrev pub with-rest : Outcome → Stream → Outcome
 with-rest (refused n x) q = refused n q
 with-rest (read e s) q = read e (at s q)
 
 -- f comes to o at s, and to the same in any other stream with the same tokens up to and through the one where it stops
-record LocalTo (f : State → Outcome) (s : State) (o : Outcome) : Type 0 where
-  before : List Lexeme
-  split : Begins (s .rest) before (rest-of o)
-  again : (x q : Stream) → Begins x before q → front q ≡ front (rest-of o) → f (at s x) ≡ with-rest o q
+pub record LocalTo (f : State → Outcome) (s : State) (o : Outcome) : Type 0 where
+  pub before : List Lexeme
+  pub split : Begins (s .rest) before (rest-of o)
+  pub again : (x q : Stream) → Begins x before q → front q ≡ front (rest-of o) → f (at s x) ≡ with-rest o q
 
-abbrev Local : (State → Outcome) → Type 0
+abbrev pub Local : (State → Outcome) → Type 0
 Local f = (s : State) → LocalTo f s (f s)
 
 local-refused : (n : ℕ) (s : State) → LocalTo (λ t. refused n (t .rest)) s (refused n (s .rest))
@@ -268,7 +268,7 @@ module _ (scope : Scope) where
             local-count (λ t. then (factor scope (levels scope n) t) (λ e u. read (denial e) u)) s _ (not-here scope (s .rest) r) (local-then (factor scope (levels scope n)) (λ e u. read (denial e) u) (counted s) _ (factor-local (levels scope n) below (counted s)) (λ e u. local-read (denial e) u));
       }
 
-  read-local : (n : ℕ) → Local (expression scope (levels scope n))
+  pub read-local : (n : ℕ) → Local (expression scope (levels scope n))
   read-local n = expression-local (levels scope n) (levels-local n)
 
 pub first-fault : First-fault

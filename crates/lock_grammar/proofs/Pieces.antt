@@ -23,8 +23,8 @@ use Rattle.lock_grammar.specs.Grammar as G
 use Rattle.lock_grammar.specs.Grammar.{Numeral, NewName, Variable, Location, Formula}
 use Rattle.lock_grammar.proofs.Parts.{Relation, LocalTo, Local, Sound, Reads, clash, reads-as, Done, stays, reads-done, One, is-token, reads-one, Seq, both, reads-next, reads-next-if, Leads}
 use Rattle.lock_grammar.proofs.Telling.{tells-number, tells-new, RegionIf, region-if, tells-region}
-use Rattle.lock_grammar.proofs.ExpressionLocal as L
-use Rattle.lock_grammar.proofs.ExpressionLocal.{read-local}
+use Rattle.expression_grammar.proofs.Local as L
+use Rattle.expression_grammar.proofs.Local.{read-local}
 
 pub seq : {A B : Type 0} {f : Reader A} {k : A → Reader B} {P : Relation A} {Q : A → Relation B} → Reads f P → ((a : A) → Reads (k a) (Q a)) → Reads (next f k) (Seq P Q)
 seq {f = f} {k = k} {P = P} {Q = Q} p q = reads-next f k P Q p q
