@@ -1,2 +1,0 @@
-pub mod Truth
-pub mod Exact
