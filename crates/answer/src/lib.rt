@@ -1,4 +1,6 @@
 //! What the program answers to a lock text.
+#![tactic(auto)]
+
 ghost use Rattle.std.specs.Prelude.{◌≡◌, Some};
 ghost use Rattle.answer.specs.Line.{Answers, line};
 

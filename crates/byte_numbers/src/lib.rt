@@ -1,4 +1,6 @@
 //! Unsigned numbers of four bytes, least byte first: reading one from bytes, and writing one into them.
+#![tactic(auto)]
+
 ghost use Rattle.std.specs.Prelude.{◌≡◌, ◌+◌, ◌≤◌, length, if◌then◌else◌, Some, None, nat_le};
 ghost use Rattle.byte_numbers.specs.Numbers.{number_at, encoded, overwritten, WrittenIsRead, ReadIsWritten};
 

@@ -1,4 +1,6 @@
 //! Judging a certificate against a system: accepted exactly when it meets the rank rule.
+#![tactic(auto)]
+
 ghost use Rattle.std.specs.Prelude.{◌≡◌, Ok};
 ghost use Rattle.system.specs.Justice.{CorrectLock};
 ghost use Rattle.certificate_theory.specs.Content.{limits_of_lem};

@@ -1,4 +1,6 @@
 //! Reading a certificate in place.
+#![tactic(auto)]
+
 ghost use Rattle.std.specs.Prelude.{◌≡◌, ℕ, ◌+◌, ◌*◌, ◌<◌, ◌≤◌, [], ◌∷◌, length, Some, None, Ok, Err, slice_index};
 ghost use Rattle.byte_numbers.specs.Numbers.{number_at};
 ghost use Rattle.certificate_theory.specs.Fields.{state as state-field, widths, rank_fields, row_tail, entries, list_fields, list_end, row_lists};

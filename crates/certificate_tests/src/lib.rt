@@ -1,4 +1,6 @@
 //! Tests of the certificate checker over locks written as tables.
+#![tactic(auto)]
+
 #[cfg(test)]
 mod tests {
     use certificate_check::{check_certificate, check_certificate_of};

@@ -111,7 +111,7 @@ module _ (K : Kind) (S : FairSystem) (law : Lawful S) (C : Certificate) where
   rule_from_clauses all =
       let one : 0 < S.steps.processes = omega (arith, law.steps.some_process) in
       record {
-        start-listed = all StartListed 0 S.steps.start 0 one refl;
+        start_listed = all StartListed 0 S.steps.start 0 one refl;
         no_listed_clash = λ s. all NoListedClash 0 s 0 one;
         successors_listed = λ s k. all SuccessorsListed 0 s k one;
         rows_exact = λ p below s. all RowsExact p s 0 below;

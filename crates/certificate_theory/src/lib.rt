@@ -1,4 +1,6 @@
 //! Certificates as bytes: their fields, what they say, and the one right answer to each.
+#![tactic(auto)]
+
 ghost use Rattle.std.specs.Prelude.{◌≡◌};
 ghost use Rattle.certificate_theory.specs.Claims.{OneRefusal, AcceptedOrRefused, CertifiedIsCorrect, ReadIsWritten};
 ghost use Rattle.certificate_theory.specs.Refusals.{number, placed};

@@ -1,4 +1,6 @@
 //! A certificate that was read, in its bytes: which states it lists, and which rows it has. A state is found by halving.
+#![tactic(auto)]
+
 ghost use Rattle.std.specs.Prelude.{◌≡◌, ℕ, ◌+◌, ◌*◌, ◌<◌, ◌≤◌, true, length, Some, None, Decides};
 ghost use Rattle.byte_numbers.specs.Numbers.{number_at};
 ghost use Rattle.rank.specs.Rows.{with_numbers};

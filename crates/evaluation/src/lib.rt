@@ -1,4 +1,6 @@
 //! Expressions in postfix order, worked out over the operand stack, and the remainder that an assignment takes.
+#![tactic(auto)]
+
 ghost use Rattle.std.specs.Prelude.{◌≡◌, ◌&&◌, [], ◌∷◌, length, pos, if◌then◌else◌, Some, None};
 ghost use Rattle.stack.specs.Held.{held, places};
 ghost use Rattle.expression.specs.Tree.{applied as joint, denied as inverse, truth, is_true};

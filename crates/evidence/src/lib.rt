@@ -1,4 +1,6 @@
 //! A certificate and a bad run against one system.
+#![tactic(auto)]
+
 ghost use Rattle.std.specs.Prelude.{◌≡◌, Ok, ◌≢◌};
 ghost use Rattle.certificate_theory.specs.Judging.{CertificateAnswered};
 ghost use Rattle.run_rules.specs.Judging.{run_answer};

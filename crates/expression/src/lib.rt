@@ -1,4 +1,5 @@
 //! Expressions of a lock text, as postfix items.
+#![tactic(auto)]
 
 /// What joins two parts of an expression.
 #[derive(Clone, Copy)]

@@ -1,4 +1,6 @@
 //! The grammar of expressions, their reading from a stream of tokens, and what the two have to do with each other.
+#![tactic(auto)]
+
 mod kind;
 mod laws;
 

@@ -1,4 +1,6 @@
 //! Reads an expression of a lock text, and writes its items in postfix order.
+#![tactic(auto)]
+
 mod entry;
 mod look;
 mod number;

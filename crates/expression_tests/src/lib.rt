@@ -1,4 +1,6 @@
 //! Expressions with their items or their refusal, at every edge.
+#![tactic(auto)]
+
 #[cfg(test)]
 mod tests {
     use expression::{Item, Operator};

@@ -1,4 +1,6 @@
 //! Reads a lock text from the standard input and prints one line that says what was done.
+#![tactic(auto)]
+
 use answer::answer_to;
 use lock_text::MAX_TEXT;
 use std::io;

@@ -1,5 +1,7 @@
 //! Bad runs as lists of steps, and the endless runs that they stand for: a stem that reaches a clash, or a stem and a
 //! loop that, repeated without end, is just and leaves a process trying for ever.
+#![tactic(auto)]
+
 ghost use Rattle.lasso.specs.Claims.{ClashRunReachesClash, LockoutLeavesTrying, BadRunBreaksLock};
 
 /// From a clash run, a run that reaches a clash.

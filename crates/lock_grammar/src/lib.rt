@@ -1,4 +1,6 @@
 //! The grammar of whole lock texts, their reading from a stream of tokens, and what the two have to do with each other.
+#![tactic(auto)]
+
 ghost use Rattle.lock_grammar.specs.Laws.{SoundTexts, CompleteTexts, OneProgram, WellFormedPrograms, LawfulSystems, FirstFaultOfTexts, FirstFaultByBytes, ReadExactly, NamesAreFound};
 ghost use Rattle.lock_grammar.specs.Examples.{RefusalExamples, ReadExamples};
 

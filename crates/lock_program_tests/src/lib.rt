@@ -1,4 +1,6 @@
 //! Lock programs filled by hand, and the steps that they take.
+#![tactic(auto)]
+
 use expression::{Item, Operator};
 use lock_program::LockProgram;
 use system::{Region, System};

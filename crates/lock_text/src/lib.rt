@@ -1,4 +1,6 @@
 //! Lock texts: their tokens.
+#![tactic(auto)]
+
 mod lexer;
 mod refusal;
 mod token;

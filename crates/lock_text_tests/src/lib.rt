@@ -1,4 +1,6 @@
 //! Texts with their tokens or their refusal, at every edge.
+#![tactic(auto)]
+
 #[cfg(test)]
 mod tests {
     use lock_text::{Mark, Placed, TextRefusal, Token, Word, count_tokens, next_token};

@@ -1,4 +1,6 @@
 //! The names that a lock text declares.
+#![tactic(auto)]
+
 mod list;
 mod table;
 

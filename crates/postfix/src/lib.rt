@@ -1,4 +1,6 @@
 //! Postfix items: whether they are those of an expression.
+#![tactic(auto)]
+
 ghost use Rattle.std.specs.Prelude.{◌≡◌, ◌≤◌, true, false, List, ◌∷◌, Some, None};
 ghost use Rattle.expression.specs.Tree.{Tree};
 ghost use Rattle.postfix.specs.Decoding.{goes_on, admitted, tree_of, IsExpression};

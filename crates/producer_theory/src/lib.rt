@@ -1,4 +1,6 @@
 //! What the producer's evidence is, in the words of graphs and runs, and what it shows. Lemmas only.
+#![tactic(auto)]
+
 ghost use Rattle.producer_theory.specs.Claims.{ProducedIsAccepted, ProducedIsOne, RightRowsKeepOutLockout, RoundLocksOut, NoneSuitsLocksOut, ClashIsNear, SoundIsCorrect, CertifiedExactlyWhenCorrect, NeverBoth};
 
 /// Where no clash is reachable the produced certificate meets the rank rule.

@@ -1,4 +1,6 @@
 //! What the producer finds out about a lock, the working tables that it is lent, and what it hands out.
+#![tactic(auto)]
+
 ghost use Rattle.std.specs.Prelude.{◌≡◌};
 ghost use Rattle.production.specs.Findings.{finding_number};
 ghost use Rattle.production.specs.Claims.{EvidenceIsAccepted, EvidenceFits};

@@ -1,4 +1,6 @@
 //! Ranks: what a certificate's rows carry, behind one interface for all kinds.
+#![tactic(auto)]
+
 ghost use Rattle.std.specs.Prelude.{◌≡◌, ℕ, ◌+◌, ◌*◌, ◌<◌, ◌≤◌, true, ◌↔◌, List, [], ◌∷◌, length, Some, None};
 ghost use Rattle.rank.specs.Kinds.{Kind, single_kind, pair_kind, numbers_at};
 ghost use Rattle.rank.specs.Laws.{LawfulKind};

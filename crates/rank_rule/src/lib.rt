@@ -1,4 +1,6 @@
 //! The rank rule for certificates, and what it shows of a lock.
+#![tactic(auto)]
+
 ghost use Rattle.rank_rule.specs.Claims.{CertifiedIsCorrect, RankRuleIsSound, RowsKeepOutLockout, NeverBoth};
 
 use rank::Rank;

@@ -1,4 +1,6 @@
 //! The run checker: whether bytes are a bad run of a system, and why not.
+#![tactic(auto)]
+
 ghost use Rattle.std.specs.Prelude.{◌≡◌, Ok, Err};
 ghost use Rattle.run_rules.specs.Layout.{BadBytes};
 ghost use Rattle.run_rules.specs.Causes.{RightRefusal};

@@ -1,4 +1,6 @@
 //! Why bytes are refused as a bad run of a system: the refusals with their numbers and places.
+#![tactic(auto)]
+
 ghost use Rattle.std.specs.Prelude.{◌≡◌};
 ghost use Rattle.run_refusal.specs.Refusals.{number, placed};
 

@@ -1,4 +1,6 @@
 //! Runs as bytes: which bytes are a bad run of a system, and which refusal is right for all others.
+#![tactic(auto)]
+
 ghost use Rattle.run_rules.specs.Claims.{OneRightRefusal, BadBytesAreNotRefused, BadBytesCondemn};
 
 /// The kinds of bad runs.

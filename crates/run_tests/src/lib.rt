@@ -1,4 +1,6 @@
 //! Tests of the run checker over locks written as tables.
+#![tactic(auto)]
+
 #[cfg(test)]
 mod tests {
     use run_check::check_run;

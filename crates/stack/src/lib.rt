@@ -1,5 +1,7 @@
 //! A stack over a lent slice of any element type: last in, first out, and full when every place of its room is taken.
 //! Refused are exactly a push when full and a pop when empty; a refusal changes nothing.
+#![tactic(auto)]
+
 ghost use Rattle.std.specs.Prelude.{◌≡◌, ◌+◌, ◌-◌, ◌<◌, [], ◌∷◌, length, set, Some, None, Ok, Err, MatchBool, ◌==◌, slice_index_or, slice_set};
 ghost use Rattle.stack.specs.Held.{held, places, top_of, with_top};
 

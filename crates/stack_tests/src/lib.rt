@@ -1,4 +1,6 @@
 //! Tests of the stack over three kinds of element: operands, state codes and search frames.
+#![tactic(auto)]
+
 #[cfg(test)]
 mod tests {
     use stack::Stack;

@@ -1,5 +1,7 @@
 //! Lock programs in the words of their language: states and their codes, the step rule, and the system that a program
 //! means.
+#![tactic(auto)]
+
 ghost use Rattle.step_rule.specs.Claims.{EveryCodeIsOneState, CommandsFollowTheRule, ProgramsMeanLawfulSystems, RemaindersAreLeast, LeafExamples};
 
 /// Codes and states are one to one.

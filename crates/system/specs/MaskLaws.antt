@@ -16,7 +16,7 @@ masked_steps_lawful m T l = record {
   few_processes = l.few_processes;
   few_commands = l.few_commands;
   few_states = l.few_states;
-  start-below = l.start_below;
+  start_below = l.start_below;
   next_below = λ s k t e. l.next_below s k t (unless_some (bit m k) (T.next s k) t e).1;
   region_outside = l.region_outside;
 }

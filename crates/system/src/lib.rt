@@ -1,4 +1,6 @@
 //! Systems: the interface between those who know a lock and those who judge it.
+#![tactic(auto)]
+
 ghost use Rattle.std.specs.Prelude.{◌≡◌};
 ghost use Rattle.system.specs.Transitions.{region_number};
 ghost use Rattle.system.specs.Justice.{FairSystem, Lawful};

@@ -62,7 +62,7 @@ lock_lawful = record {
     few_processes = omega arith;
     few_commands = omega arith;
     few_states = omega arith;
-    start-below = omega arith;
+    start_below = omega arith;
     next_below = goes_in_below;
     region_outside = stands_outside;
   };

@@ -1,4 +1,6 @@
 //! Theorems on systems, each the contract of a function.
+#![tactic(auto)]
+
 ghost use Rattle.system.specs.Masks.{PilesAreUnions, HighBitsDoNothing};
 ghost use Rattle.system_laws.specs.Holding.{ClashIsTwoHolders};
 ghost use Rattle.system_laws.specs.Passing.{WalksExtendToRuns, ReachableIsPassedThrough, ClashFreeByStates};

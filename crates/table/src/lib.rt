@@ -1,4 +1,6 @@
 //! A lock as a table: the smallest thing that is a system.
+#![tactic(auto)]
+
 ghost use Rattle.std.specs.Prelude.{◌≡◌, ℕ, ◌+◌, ◌*◌, ◌<◌, ◌≤◌, Some, None, Decides, nat_lt};
 ghost use Rattle.table.specs.Tables.{cell, if_below, EachBelow, RightLengths, WellFormed, table_system};
 ghost use Rattle.table.specs.Laws.{table_lawful};

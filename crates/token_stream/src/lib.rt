@@ -1,4 +1,6 @@
 //! Lock texts as streams of tokens: each text is one, and it can be computed.
+#![tactic(auto)]
+
 ghost use Rattle.token_stream.specs.Streams.{StreamsAreOne};
 ghost use Rattle.token_stream.specs.Computed.{StreamOfText};
 
