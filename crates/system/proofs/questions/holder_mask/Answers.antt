@@ -2,7 +2,7 @@ use Rattle.std.proofs.Common.{◌≡◌, ℕ, ◌+◌, ◌^◌, ◌<◌, ◌≤�
 use Rattle.system.specs.Transitions.{holders_below}
 use Rattle.system.proofs.Holders.{or_place, doubled, holders_more, holder_bit_one, holder_bit_zero}
 use Rattle.system.proofs.questions.holder_mask.Goals as goal
-use Rattle.system.proofs.questions.holder_mask.Goals.{in-Crit, in-default}
+use Rattle.system.proofs.questions.holder_mask.Goals.{in-Crit, in_default}
 
 pub loop-p-preserved : goal.loop-p-preserved
 loop-p-preserved g c =
@@ -20,8 +20,8 @@ loop-p-preserved g c =
           (let h : c.match-region.mask ≡ 2 ^ p + m = w.mask-is ∙ or_place p m lt i.0 in
           let y = holder_bit_one (T.region c.args.state p) (sym w.in-Crit.ensures) in
           (omega arith, simp (more, y) (omega arith)))
-      | in-default w ↦
-          (let n = holder_bit_zero (T.region c.args.state p) (λ e. w.in-default.not-Crit (c.region.ensures ∙ e)) in
+      | in_default w ↦
+          (let n = holder_bit_zero (T.region c.args.state p) (λ e. w.in_default.not-Crit (c.region.ensures ∙ e)) in
           let h = w.mask-is in
           (omega arith, simp (more, n) (omega arith)))
     ]
