@@ -38,7 +38,7 @@ impl Number for u32 {
 
 // Whether every number in the list is below `bound`.
 fn each_below<N: Number>(list: &[Option<N>], bound: N) -> bool
-    ensures { Decides result (EachBelow number list.now (number bound)) }
+    ensures { Decides result (EachBelow N.number list.now (N.number bound)) }
 {
     for e in list {
         if let Some(n) = *e {
@@ -73,7 +73,7 @@ fn cell_at<T: Copy>(list: &[T], row: u32, rows: u32, column: u8, columns: u8, mi
 
 // The entry itself where its number is below `bound`, else none.
 fn kept_below<N: Number>(entry: Option<N>, bound: N) -> Option<N>
-    ensures { result ≡ if_below number (number bound) entry }
+    ensures { result ≡ if_below N.number (N.number bound) entry }
 {
     match entry {
         Some(n) if n.is_below(bound) => Some(n),
