@@ -17,13 +17,13 @@ returns-in_err-listed_end c =
 
 pub returns-in_err-lists : goal.returns-in_err-lists
 returns-in_err-lists c =
-    let p = err_from_is_err_and c.from-residual-in-err-lists.result c.from-residual-in-err-lists.ensures.1 in
+    let p = err_from_is_err_and c.from_residual-in_err-lists.result c.from_residual-in_err-lists.ensures.1 in
     let L = c.args.limits in
     let bs = c.args.bytes.now in
     let Kind-ok = kind_right L bs (omega (arith, c.if-bytes-eq0.false)) c.if-bytes-limits.false in
     let listed = c.in_ok-listed_end.ensures in
-    let rows : Some c.in-err-lists.field-0.0 ≡ first_fault L bs (list_end bs 1 4) (row_lists L.numbers bs (list_end bs 1 4) L.processes) =
-    subst (λ (n : ℕ). Some c.in-err-lists.field-0.0 ≡ first_fault L bs n (row_lists L.numbers bs n L.processes)) listed.ends.0 c.in-err-lists.ensures.told in
+    let rows : Some c.in_err-lists.field-0.0 ≡ first_fault L bs (list_end bs 1 4) (row_lists L.numbers bs (list_end bs 1 4) L.processes) =
+    subst (λ (n : ℕ). Some c.in_err-lists.field-0.0 ≡ first_fault L bs n (row_lists L.numbers bs n L.processes)) listed.ends.0 c.in_err-lists.ensures.told in
     rw (p.1, p.2) (record { told = sym (at_rows L bs Kind-ok (sym listed.told) _ (sym rows)); begins = tt })
 
 pub returns-then-lists-bytes : goal.returns-then-lists-bytes
