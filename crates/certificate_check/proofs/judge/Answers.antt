@@ -10,22 +10,22 @@ use Rattle.certificate_check.proofs.judge.Goals as goal
 pub loop-clause-init : goal.loop-clause-init
 loop-clause-init g c = none_first g.R.Rank.kind (g.S.System.meaning c.args.system.now) (certificate_of c.args.view.now)
 
-pub least-failure-requires : goal.least-failure-requires
-least-failure-requires g c = ap (λ (L : Limits). L.numbers) c.requires
+pub least_failure-requires : goal.least_failure-requires
+least_failure-requires g c = ap (λ (L : Limits). L.numbers) c.requires
 
 pub returns-in-Some : goal.returns-in-Some
 returns-in-Some g c =
     let v = c.args.view.now in
     clause_refused g.R.Rank.kind (g.S.System.meaning c.args.system.now) (g.S.System.lawful c.args.system.now) v.bytes.now v.limits c.requires
     (whole_reads v.limits v.bytes.now v.reads) c.loop-clause.clause-index _ c.in-Some.point c.loop-clause-test.true c.loop-clause.invariant
-    c.in-Some.ensures c.refusal-of.result c.refusal-of.ensures
+    c.in-Some.ensures c.refusal_of.result c.refusal_of.ensures
 
 pub loop-clause-preserved : goal.loop-clause-preserved
 loop-clause-preserved g c =
     let v = c.args.view.now in
     one_more g.R.Rank.kind (g.S.System.meaning c.args.system.now) (certificate_of v) c.loop-clause.clause-index _ c.loop-clause-test.true c.loop-clause.invariant
     (clause_holds g.R.Rank.kind (g.S.System.meaning c.args.system.now) (g.S.System.lawful c.args.system.now) v.bytes.now v.limits c.requires
-    (whole_reads v.limits v.bytes.now v.reads) _ c.in-default.ensures)
+    (whole_reads v.limits v.bytes.now v.reads) _ c.in_default.ensures)
 
 pub returns : goal.returns
 returns g c =

@@ -5,7 +5,7 @@ use Rattle.certificate_theory.specs.Points.{LeastSpot, LeastPoint}
 use Rattle.certificate_theory.proofs.Points.{limit_after, kept_point, new_point}
 use Rattle.certificate_view.specs.Held.{certificate_of}
 use Rattle.certificate_check.proofs.least_failure.Goals as goal
-use Rattle.certificate_check.proofs.least_failure.Goals.{in-Some, in-default}
+use Rattle.certificate_check.proofs.least_failure.Goals.{in-Some, in_default}
 
 pub loop-state-init : goal.loop-state-init
 loop-state-init g c = (c.processes-limit.ensures, λ p s k below h. absurd (let f : ⊥ = omega arith in f))
@@ -17,17 +17,17 @@ loop-state-preserved g c =
     let P = m.steps.processes in
     let n = c.loop-state.state in
     let i = c.loop-state.invariant in
-    let Next : Option Point → Type 0 = λ f. (c.match-failure-at.limit ≡ limit_after P f) × LeastPoint H P (n + 1) f in
-    elim c.match-failure-at.branch [
+    let Next : Option Point → Type 0 = λ f. (c.match-failure_at.limit ≡ limit_after P f) × LeastPoint H P (n + 1) f in
+    elim c.match-failure_at.branch [
       | in-Some w ↦ subst Next (sym w.found-is) (
         w.limit-is,
         new_point H P n c.loop-state.found w.in-Some.spot i.1
             (subst (λ (x : ℕ). LeastSpot (λ p k. H p n k) x (Some w.in-Some.spot)) i.0 w.in-Some.ensures),
       )
-      | in-default w ↦ subst Next (sym w.found-is) (
+      | in_default w ↦ subst Next (sym w.found-is) (
         w.limit-is ∙ i.0,
         kept_point H P n c.loop-state.found i.1
-            (subst (λ (x : ℕ). LeastSpot (λ p k. H p n k) x None) i.0 w.in-default.ensures),
+            (subst (λ (x : ℕ). LeastSpot (λ p k. H p n k) x None) i.0 w.in_default.ensures),
       )
     ]
 

@@ -7,14 +7,14 @@ use Rattle.certificate_theory.proofs.Scans.{first_of_none, first_of_some}
 use Rattle.certificate_theory.proofs.Loops.{lists_turn}
 use Rattle.certificate_read.proofs.check_row_lists.Goals as goal
 
-pub returns-in-err-from : goal.returns-in-err-from
-returns-in-err-from c =
-    let p = err_from_is_err_and c.from-residual.result c.from-residual.ensures.1 in
+pub returns-in_err-from : goal.returns-in_err-from
+returns-in_err-from c =
+    let p = err_from_is_err_and c.from_residual.result c.from_residual.ensures.1 in
     let L = c.args.limits in
     let bs = c.args.bytes.now in
     let turn = lists_turn L bs L.numbers L.processes c.loop-p.p c.loop-p.from c.loop-p-test.true in
     rw (p.1, p.2) (record {
-      told = sym (first_of_some _ _ _ (sym c.in-err-from.ensures.told)) ∙ sym turn ∙ c.loop-p.invariant.3;
+      told = sym (first_of_some _ _ _ (sym c.in_err-from.ensures.told)) ∙ sym turn ∙ c.loop-p.invariant.3;
       begins = tt;
     })
 
@@ -25,7 +25,7 @@ loop-p-preserved c =
     let bs = c.args.bytes.now in
     let from = c.loop-p.from in
     let i = c.loop-p.p in
-    let r = c.in-ok-from.ensures in
+    let r = c.in_ok-from.ensures in
     let e = r.ends.0 in
     let inv = c.loop-p.invariant in
     let few = c.requires in

@@ -10,9 +10,9 @@ pub returns : goal.returns
 returns g c =
     let L = limits_of_lem g.R.Rank.kind (g.S.System.meaning c.args.system.now) in
     let bs = c.args.bytes.now in
-    let r = c.read-fields.result in
-    let e = c.limits_of_lem.ensures in
+    let r = c.read_fields.result in
+    let e = c.limits_of.ensures in
     record {
-      told = read_rightly L bs r (subst (λ (M : Limits). refusal_in r ≡ reading_fault M bs) e c.read-fields.ensures.told);
-      begins = subst (λ (M : Limits). Begins M bs r) e c.read-fields.ensures.begins;
+      told = read_rightly L bs r (subst (λ (M : Limits). refusal_in r ≡ reading_fault M bs) e c.read_fields.ensures.told);
+      begins = subst (λ (M : Limits). Begins M bs r) e c.read_fields.ensures.begins;
     }

@@ -2,14 +2,14 @@ use Rattle.std.proofs.Common.{arith, rules}
 use Rattle.certificate_view.proofs.Halving.{entry_within}
 use Rattle.certificate_view.proofs.entry_state.Goals as goal
 
-pub overflow-mul-width : goal.overflow-mul-width
-overflow-mul-width c =
+pub overflow_mul-width : goal.overflow_mul-width
+overflow_mul-width c =
     let e = entry_within c.args.width c.args.count c.args.i c.requires.inside in
     let h = c.requires.within in
     search rules
 
-pub overflow-add-at : goal.overflow-add-at
-overflow-add-at c =
+pub overflow_add-at : goal.overflow_add-at
+overflow_add-at c =
     let e = entry_within c.args.width c.args.count c.args.i c.requires.inside in
     let h = c.requires.within in
     search rules

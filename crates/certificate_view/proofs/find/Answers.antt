@@ -7,7 +7,7 @@ pub loop-low-preserved-then-state-wanted-2 : goal.loop-low-preserved-then-state-
 loop-low-preserved-then-state-wanted-2 c =
     let m : ℕ = c.loop-low.low + (c.loop-low.high - c.loop-low.low) / 2 in
     let i = c.loop-low.invariant in
-    let e = c.entry-state-state.ensures in
+    let e = c.entry_state-state.ensures in
     let l : state_of c.args.bytes.now c.args.at c.args.width m < c.args.wanted = omega arith in
     (omega arith, i.1, all_below c.args.bytes.now c.args.at c.args.width c.args.count c.requires.ascends m c.args.wanted (omega arith) l, i.3)
 
@@ -15,7 +15,7 @@ pub loop-low-preserved : goal.loop-low-preserved
 loop-low-preserved c =
     let m : ℕ = c.loop-low.low + (c.loop-low.high - c.loop-low.low) / 2 in
     let i = c.loop-low.invariant in
-    let e = c.entry-state-state.ensures in
+    let e = c.entry_state-state.ensures in
     let n = c.if-state-wanted.false in
     let l : c.args.wanted < state_of c.args.bytes.now c.args.at c.args.width m = grind arith in
     (omega arith, omega arith, i.2, all_above c.args.bytes.now c.args.at c.args.width c.args.count c.requires.ascends m c.args.wanted (omega arith) l)

@@ -8,4 +8,4 @@ pub returns-in-None : goal.returns-in-None
 returns-in-None c =
     let at = c.args.at in
     let bs = c.args.bytes.now in
-    absurd (there (leb (at + 4) (length bs)) (number_at bs at) c.number-at.result (le-leb (at + 4) (length bs) c.requires) c.number-at.ensures c.in-None.is)
+    absurd (there (leb (at + 4) (length bs)) (number_at bs at) c.number_at.result (le-leb (at + 4) (length bs) c.requires) c.number_at.ensures c.in-None.is)

@@ -4,15 +4,15 @@ use Rattle.certificate_theory.proofs.Spots.{denied, process_fails, processes_hol
 use Rattle.certificate_view.specs.Held.{certificate_of}
 use Rattle.certificate_check.proofs.clauses.rows_failure.Goals as goal
 
-pub returns-then-not-row-is-exact : goal.returns-then-not-row-is-exact
-returns-then-not-row-is-exact g c =
+pub returns-then-not-row_is_exact : goal.returns-then-not-row_is_exact
+returns-then-not-row_is_exact g c =
     process_fails (λ q. RowsExactAt (g.S.System.meaning c.args.system.now) (certificate_of c.args.view.now) q c.args.state) c.args.limit
-    c.loop-process.process c.loop-process-test.true (denied c.if-not-row-is-exact.ensures) c.loop-process.invariant
+    c.loop-process.process c.loop-process-test.true (denied c.if-not-row_is_exact.ensures) c.loop-process.invariant
 
 pub loop-process-preserved : goal.loop-process-preserved
 loop-process-preserved g c =
     below_more (λ q. RowsExactAt (g.S.System.meaning c.args.system.now) (certificate_of c.args.view.now) q c.args.state) c.loop-process.process
-    c.loop-process.invariant (c.if-not-row-is-exact.ensures.0 refl)
+    c.loop-process.invariant (c.if-not-row_is_exact.ensures.0 refl)
 
 pub returns : goal.returns
 returns g c =

@@ -4,18 +4,18 @@ use Rattle.certificate_theory.proofs.Spots.{denied, past_commands, command_fails
 use Rattle.certificate_view.specs.Held.{certificate_of}
 use Rattle.certificate_check.proofs.clauses.successor_failure.Goals as goal
 
-pub returns-then-not-successor-is-listed : goal.returns-then-not-successor-is-listed
-returns-then-not-successor-is-listed g c =
+pub returns-then-not-successor_is_listed : goal.returns-then-not-successor_is_listed
+returns-then-not-successor_is_listed g c =
     let H = SuccessorsListedAt (g.S.System.meaning c.args.system.now) (certificate_of c.args.view.now) c.args.state in
-    let listed = c.if-not-is-listed.ensures.0 refl in
+    let listed = c.if-not-is_listed.ensures.0 refl in
     let some : 0 < c.args.limit = omega (arith, c.if-limit-eq0.false) in
     command_fails H c.args.limit c.loop-command.command some
-    (λ h. denied c.if-not-successor-is-listed.ensures (λ t e. h t listed e)) c.loop-command.invariant
+    (λ h. denied c.if-not-successor_is_listed.ensures (λ t e. h t listed e)) c.loop-command.invariant
 
 pub loop-command-preserved : goal.loop-command-preserved
 loop-command-preserved g c =
     let H = SuccessorsListedAt (g.S.System.meaning c.args.system.now) (certificate_of c.args.view.now) c.args.state in
-    below_more H c.loop-command.command c.loop-command.invariant (λ t listed e. c.if-not-successor-is-listed.ensures.0 refl t e)
+    below_more H c.loop-command.command c.loop-command.invariant (λ t listed e. c.if-not-successor_is_listed.ensures.0 refl t e)
 
 pub returns : goal.returns
 returns g c = λ p k below t listed e.

@@ -8,5 +8,5 @@ pub returns-in-Some : goal.returns-in-Some
 returns-in-Some g c =
     falls_decides g.R.Rank.kind (g.S.System.meaning c.args.system.now) (certificate_of c.args.view.now) c.args.process
     (with_numbers g.R.Rank.value c.args.row.now) c.args.command c.args.to (with_numbers g.R.Rank.value c.in-Some.after)
-    c.has-class-taken.result c.falls-to.result (c.in-Some.ensures c.requires) (c.if-not-waits.ensures.0 refl)
-    c.has-class-taken.ensures.decides c.falls-to.ensures
+    c.has_class-taken.result c.falls_to.result (c.in-Some.ensures c.requires) (c.if-not-waits.ensures.0 refl)
+    c.has_class-taken.ensures.decides c.falls_to.ensures

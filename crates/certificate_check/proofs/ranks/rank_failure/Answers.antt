@@ -7,7 +7,7 @@ use Rattle.certificate_check.proofs.ranks.rank_failure.Goals as goal
 pub returns-in-Some : goal.returns-in-Some
 returns-in-Some g c =
     spot_found g.R.Rank.kind (g.S.System.meaning c.args.system.now) (g.S.System.lawful c.args.system.now) (certificate_of c.args.view.now) c.args.state c.args.limit
-    c.successors-of-successors.result c.successors-of-successors.ensures c.loop-process.process c.in-Some.command c.loop-process-test.true
+    c.successors_of-successors.result c.successors_of-successors.ensures c.loop-process.process c.in-Some.command c.loop-process-test.true
     c.in-Some.ensures c.loop-process.invariant
 
 pub loop-process-preserved : goal.loop-process-preserved
@@ -15,4 +15,4 @@ loop-process-preserved g c =
     below_more (λ q. (k : ℕ) → RanksFallAt g.R.Rank.kind (g.S.System.meaning c.args.system.now) (certificate_of c.args.view.now) q c.args.state k)
     c.loop-process.process c.loop-process.invariant
     (process_holds g.R.Rank.kind (g.S.System.meaning c.args.system.now) (g.S.System.lawful c.args.system.now) (certificate_of c.args.view.now) c.args.state c.args.limit
-    c.successors-of-successors.result c.successors-of-successors.ensures c.loop-process.process c.in-default.ensures)
+    c.successors_of-successors.result c.successors_of-successors.ensures c.loop-process.process c.in_default.ensures)

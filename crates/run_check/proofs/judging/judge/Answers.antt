@@ -8,7 +8,7 @@ returns g c =
     let law = g.S.System.lawful c.args.system.now in
     let bs = c.args.bytes.now in
     let answer = c.answer.result in
-    let is = right m law bs (λ i h. let fits = c.type-inv.bytes i in omega arith) answer c.answer.ensures in
+    let is = right m law bs (λ i h. let fits = c.type_inv.bytes i in omega arith) answer c.answer.ensures in
     record {
       right = is;
       all = λ bad. all m law bs bad answer c.answer.ensures;

@@ -11,14 +11,14 @@ loop-byte-init g c = λ j h. ap (λ b. b && neglected (g.S.System.meaning c.args
 pub returns-in-None : goal.returns-in-None
 returns-in-None g c = λ j h.
     and_true _
-    ∙ sym (neglected_turn (g.S.System.meaning c.args.system.now) c.args.steps.now c.loop-byte.byte-index c.loop-byte.state j c.loop-byte.owed c.owed-at-owed.result
-    c.class-of.result None c.loop-byte-test.true c.class-of.ensures (c.owed-at-owed.ensures j) (sym c.in-None.ensures))
+    ∙ sym (neglected_turn (g.S.System.meaning c.args.system.now) c.args.steps.now c.loop-byte.byte-index c.loop-byte.state j c.loop-byte.owed c.owed_at-owed.result
+    c.class_of.result None c.loop-byte-test.true c.class_of.ensures (c.owed_at-owed.ensures j) (sym c.in-None.ensures))
     ∙ c.loop-byte.invariant j h
 
 pub loop-byte-preserved : goal.loop-byte-preserved
 loop-byte-preserved g c = λ j h.
-    sym (neglected_turn (g.S.System.meaning c.args.system.now) c.args.steps.now c.loop-byte.byte-index c.loop-byte.state j c.loop-byte.owed c.owed-at-owed.result
-    c.class-of.result (Some c.in-Some.next) c.loop-byte-test.true c.class-of.ensures (c.owed-at-owed.ensures j) (sym c.in-Some.ensures))
+    sym (neglected_turn (g.S.System.meaning c.args.system.now) c.args.steps.now c.loop-byte.byte-index c.loop-byte.state j c.loop-byte.owed c.owed_at-owed.result
+    c.class_of.result (Some c.in-Some.next) c.loop-byte-test.true c.class_of.ensures (c.owed_at-owed.ensures j) (sym c.in-Some.ensures))
     ∙ c.loop-byte.invariant j h
 
 pub returns : goal.returns

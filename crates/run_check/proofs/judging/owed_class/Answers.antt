@@ -2,8 +2,8 @@ use Rattle.std.proofs.Common.{◌≡◌, true, is_some, sym, arith, rules}
 use Rattle.run_rules.proofs.Bits.{owed_here}
 use Rattle.run_check.proofs.judging.owed_class.Goals as goal
 
-pub returns-else-same-class : goal.returns-else-same-class
-returns-else-same-class g c =
+pub returns-else-same_class : goal.returns-else-same_class
+returns-else-same_class g c =
     let m = g.S.System.meaning c.args.system.now in
     let law = g.S.System.lawful c.args.system.now in
     let class = c.in-Some.class in
@@ -13,5 +13,5 @@ returns-else-same-class g c =
     let enabled : is_some (m.steps.next c.args.state c.args.command) ≡ true = search rules in
     record {
       small = omega arith;
-      same = owed_here (m.class c.args.command) c.args.taken class _ is enabled (sym c.if-same-class.ensures);
+      same = owed_here (m.class c.args.command) c.args.taken class _ is enabled (sym c.if-same_class.ensures);
     }

@@ -19,6 +19,6 @@ returns-then-there-count c =
     let short : ltb (length c.args.bytes.now) (c.args.at + c.args.count) ≡ true = grind (arith, nat_tests) in
     record {
       same = sym (simp short) ∙ steps_there c.args.commands c.args.bytes.now c.args.at c.args.count c.min-there.result c.requires (grind arith)
-          None c.in-default.ensures.same;
+          None c.in_default.ensures.same;
       fits = tt;
     }

@@ -19,4 +19,4 @@ find-requires c =
     }
 
 pub returns : goal.returns
-returns c = found_decides c.args.self.now c.args.state c.number-count.result c.find.result c.is-some.result c.number-count.ensures c.is-some.ensures c.find.ensures
+returns c = found_decides c.args.self.now c.args.state c.number-count.result c.find.result c.is_some.result c.number-count.ensures c.is_some.ensures c.find.ensures

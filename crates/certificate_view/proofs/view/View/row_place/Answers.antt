@@ -24,14 +24,14 @@ find-requires c =
       ascends = subst (λ (m : ℕ). Ascends bs (at + 4) w m) e l.ascend;
     }
 
-pub overflow-add-at : goal.overflow-add-at
-overflow-add-at c = let h = view_count c.args.self.now c.args.process c.if-process-self.false in search rules
+pub overflow_add-at : goal.overflow_add-at
+overflow_add-at c = let h = view_count c.args.self.now c.args.process c.if-process-self.false in search rules
 
-pub overflow-add-result : goal.overflow-add-result
-overflow-add-result c = let h = view_count c.args.self.now c.args.process c.if-process-self.false in search rules
+pub overflow_add-result : goal.overflow_add-result
+overflow_add-result c = let h = view_count c.args.self.now c.args.process c.if-process-self.false in search rules
 
-pub overflow-add-result-in-Some : goal.overflow-add-result-in-Some
-overflow-add-result-in-Some c =
+pub overflow_add-result-in-Some : goal.overflow_add-result-in-Some
+overflow_add-result-in-Some c =
     let h = (view_row c.args.self.now c.args.process c.if-process-self.false c.args.state c.number-count.result c.in-Some.i c.number-count.ensures c.in-Some.ensures).0 in
     search rules
 
