@@ -1,11 +1,11 @@
 -- The endless run of a stem and a loop: the stem, then the loop again and again.
-use Rattle.std.proofs.Common.{◌≡◌, ℕ, zero, suc, ◌+◌, ◌*◌, ◌<◌, ◌≤◌, ◌⊎◌, List, [], ◌∷◌, ◌++◌, length, get_or, take, drop, Some, sym, refl, ap, ◌∙◌, subst, ap₂, inl, inr, append_assoc, append-nil, suc-mul, arith, length-append, take-append-drop}
+use Rattle.std.proofs.Common.{◌≡◌, ℕ, zero, suc, ◌+◌, ◌*◌, ◌<◌, ◌≤◌, ◌⊎◌, List, [], ◌∷◌, ◌++◌, length, get_or, take, drop, sym, refl, ap, ◌∙◌, subst, ap₂, inl, inr, append_assoc, append-nil, suc-mul, arith, length-append, take-append-drop}
 use native.Mathlib.Decide.{le_ind}
 use Rattle.std.specs.List.{ContainsAt as Has}
 use Rattle.system.specs.Transitions.{Transitions, Waits}
 use Rattle.system.specs.Runs.{Step, command, rest, Leads, Walk, Run}
-use Rattle.system.specs.Justice.{FairSystem, ClassDisabled, OfClass, Just, InfinitelyOften}
-use Rattle.lasso.specs.BadRuns.{LoopState, TreatedJustly, ClashRun, LockoutRun, BadRun, clash, lockout}
+use Rattle.system.specs.Justice.{ClassDisabled, OfClass, Just, InfinitelyOften}
+use Rattle.lasso.specs.BadRuns.{LoopState, TreatedJustly, clash, lockout}
 use Rattle.lasso.specs.Claims.{StemThenLoop, ClashRunReachesClash, LockoutLeavesTrying, BadRunBreaksLock}
 
 take_front : {A : Type 0} (v w : List A) → take (length v) (v ++ w) ≡ v

@@ -1,5 +1,5 @@
 -- Bad runs, as lists of steps: a stem to a clash, or a stem and a loop that locks a process out. Assumes nothing.
-use Rattle.std.specs.Prelude.{◌≡◌, ℕ, ◌<◌, ◌≤◌, ◌⊎◌, List, length, take}
+use Rattle.std.specs.Prelude.{ℕ, ◌<◌, ◌≤◌, ◌⊎◌, List, length, take}
 use Rattle.std.specs.List.{ContainsAt as Has}
 use Rattle.system.specs.Transitions.{Transitions, Waits, Clash}
 use Rattle.system.specs.Runs.{Step, Walk}

@@ -1,5 +1,5 @@
 -- The answer is right, and what acceptance proves.
-use Rattle.std.proofs.Common.{◌≡◌, ℕ, ◌⊎◌, List, get_or, Ok, Err, Result, sym, refl, ap, ◌∙◌, subst, inl, inr}
+use Rattle.std.proofs.Common.{◌≡◌, ℕ, List, get_or, Ok, Err, Result, sym, ap, ◌∙◌, subst, inl, inr}
 use Rattle.byte_numbers.specs.Numbers.{Bytes}
 use Rattle.system.specs.Runs.{Run, LeavesTrying}
 use Rattle.system.specs.Justice.{FairSystem, Lawful, Just}

@@ -1,11 +1,11 @@
 -- The bytes before x have no fault.
-use Rattle.std.proofs.Common.{◌≡◌, ℕ, zero, suc, ◌+◌, ◌<◌, ◌≤◌, Bool, true, false, cond, ◌⊎◌, List, [], ◌∷◌, length, get_or, take, drop, sym, refl, ap, ◌∙◌, subst, inl, inr, arith}
+use Rattle.std.proofs.Common.{◌≡◌, ℕ, ◌+◌, ◌<◌, ◌≤◌, ◌⊎◌, List, length, get_or, subst, inl, inr, arith}
 use Rattle.std.proofs.lemmas.Bool.{cases_lt}
 use Rattle.system.specs.Justice.{FairSystem, Lawful}
 use Rattle.run_refusal.specs.declared.RunRefusal.{RunRefusal}
 use Rattle.run_refusal.specs.declared.RunRefusal.TheVariants.{WrongLength, WrongKind, WrongProcess, WrongStep, WrongLoopCount, StepDisabled, NoClash, LoopOpen, NotWaiting, ClassNeglected}
 use Rattle.run_refusal.specs.Refusals.{number, placed, place}
-use Rattle.run_rules.specs.Causes.{Cause, Field, StepAt}
+use Rattle.run_rules.specs.Causes.{Cause}
 use Rattle.run_rules.specs.Layout.{stem_length, loop_length, end}
 use Rattle.run_rules.proofs.Order.{AheadBy}
 

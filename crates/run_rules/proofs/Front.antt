@@ -1,5 +1,5 @@
 -- Reading refuses by the first fault, and what it reads has none.
-use Rattle.std.proofs.Common.{◌≡◌, ℕ, zero, suc, ◌+◌, ◌-◌, ◌<◌, ◌≤◌, min, Bool, true, false, cond, eqb, ltb, leb, ◌⊎◌, List, [], ◌∷◌, length, get_or, take, drop, Some, None, Ok, Err, Option, Result, sym, refl, ap, ◌∙◌, subst, inl, inr, arith, MatchResult}
+use Rattle.std.proofs.Common.{◌≡◌, ℕ, zero, suc, ◌+◌, ◌-◌, ◌<◌, ◌≤◌, min, true, false, cond, eqb, ltb, leb, ◌⊎◌, List, [], ◌∷◌, length, get_or, take, drop, Some, None, Ok, Err, Option, Result, sym, refl, ap, ◌∙◌, subst, inl, inr, arith, MatchResult}
 use Rattle.std.proofs.lemmas.List.{length-take, length-drop, get_or-take, get_or-drop}
 use Rattle.std.proofs.lemmas.Bool.{cond_both}
 use Rattle.std.proofs.lemmas.Bool.Decides.{nat_tests}
@@ -9,7 +9,7 @@ use Rattle.run_refusal.specs.declared.Place.{Place}
 use Rattle.run_rules.specs.declared.Kind.{Kind}
 use Rattle.run_rules.specs.declared.Kind.TheVariants.{Clash, Lockout}
 use Rattle.run_refusal.specs.declared.RunRefusal.{RunRefusal}
-use Rattle.run_refusal.specs.declared.RunRefusal.TheVariants.{WrongLength, WrongKind, WrongProcess, WrongStep, WrongLoopCount, StepDisabled, NoClash, LoopOpen, NotWaiting, ClassNeglected}
+use Rattle.run_refusal.specs.declared.RunRefusal.TheVariants.{WrongLength, WrongKind, WrongProcess, WrongStep, WrongLoopCount}
 use Rattle.run_refusal.specs.Refusals.{number, placed, place}
 use Rattle.run_rules.specs.Reading.{and_then, Fields, fields, is_step_lem, no_step, is_process_lem, is_loop_count_lem, kind_at, process_at_lem, count_at, loop_count_at_lem, steps_or, steps_at_lem, ended, read_run_lem}
 use Rattle.run_rules.specs.Causes.{Cause, RightRefusal, Field, StepAt}

@@ -1,12 +1,11 @@
 -- The answer is acceptance of the fields of a bad run, or the right refusal.
-use Rattle.std.proofs.Common.{◌≡◌, ℕ, zero, suc, ◌+◌, ◌-◌, ◌<◌, ◌≤◌, min, Bool, true, false, cond, eqb, ◌⊎◌, List, [], ◌∷◌, ◌++◌, map, length, get_or, take, drop, Some, None, Ok, Err, Option, Result, sym, refl, ap, ◌∙◌, subst, inl, inr, arith}
-use Rattle.std.specs.List.{ContainsAt as Has}
+use Rattle.std.proofs.Common.{◌≡◌, ℕ, suc, ◌+◌, ◌-◌, ◌<◌, ◌≤◌, min, Bool, true, false, cond, eqb, ◌⊎◌, List, [], ◌∷◌, ◌++◌, map, length, get_or, take, drop, Some, None, Ok, Err, Option, Result, sym, refl, ap, ◌∙◌, subst, inl, inr, arith}
 use Rattle.std.proofs.lemmas.List.{map-append, take-take, get_or-take, length-take, length-drop, length-map}
 use Rattle.std.proofs.lemmas.Bool.{cond_both}
 use Rattle.std.proofs.lemmas.Bool.Decides.{nat_tests, not_from_Decides}
 use Rattle.system.specs.Transitions.{Transitions, Waits, Enabled, Clash as Clashes}
 use Rattle.system.specs.Runs.{Step, command, rest, Leads, Walk}
-use Rattle.system.specs.Justice.{FairSystem, Lawful, ClassDisabled, OfClass}
+use Rattle.system.specs.Justice.{FairSystem, Lawful, ClassDisabled}
 use Rattle.system.specs.Tests.{is_clash_lem}
 use Rattle.system.proofs.Decided.{is_clash_decides}
 use Rattle.lasso.specs.BadRuns.{LoopState, ClashRun, LockoutRun}
@@ -22,7 +21,6 @@ use Rattle.run_rules.specs.Reading.{and_then, Fields, read_run_lem}
 use Rattle.run_rules.specs.Judging.{or_else, after, walked, least_idle, neglected, least, judged_loop, judged_clash, judged_lockout, judged_by, judged, run_answer}
 use Rattle.run_rules.specs.Causes.{Cause, Ahead, PlaceBefore, RightRefusal, StepAt}
 use Rattle.run_rules.proofs.Order.{AheadBy, ahead_by}
-use Rattle.run_rules.proofs.Clean.{Clean}
 use Rattle.run_rules.proofs.Front.{KindIs, ProcessIs, LoopIs, Read, Outcome, outcome}
 use Rattle.run_rules.proofs.Paths.{Stuck, WalkTold, walk_told, walk_through, IdleTold, idle_told, NeglectedTold, neglected_told, LeastTold, least_told}
 

@@ -1,7 +1,7 @@
 -- Why bytes are refused as a run, cause by cause, and which cause decides. Assumes nothing.
 use Rattle.std.specs.Prelude.{◌≡◌, ℕ, ◌+◌, ◌<◌, ◌≤◌, ◌⊎◌, List, ◌++◌, length, take, slice_index, slice_index_or}
 use Rattle.std.specs.List.{ContainsAt as Has}
-use Rattle.system.specs.Transitions.{Transitions, Enabled, Waits, Clash}
+use Rattle.system.specs.Transitions.{Enabled, Waits, Clash}
 use Rattle.system.specs.Runs.{Step, command, rest, Walk}
 use Rattle.system.specs.Justice.{FairSystem, ClassDisabled, OfClass}
 use Rattle.lasso.specs.BadRuns.{LoopState}

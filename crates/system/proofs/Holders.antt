@@ -1,5 +1,5 @@
 -- The holder mask, one process more.
-use Rattle.std.proofs.Common.{◌≡◌, ℕ, zero, suc, ◌+◌, ◌*◌, ◌%◌, ◌^◌, ◌<◌, ◌≤◌, sym, refl, ap, ◌∙◌, mod-eq_of_lt, pow-suc, add-one, arith}
+use Rattle.std.proofs.Common.{◌≡◌, ℕ, ◌+◌, ◌*◌, ◌%◌, ◌^◌, ◌<◌, refl, ap, ◌∙◌, mod-eq_of_lt, pow-suc, add-one, arith}
 use lib.Pow.{pow-lt}
 use lib.Bits.{bit_or, or_shifted_r}
 use Rattle.system.specs.declared.Region.{Region}

@@ -1,13 +1,13 @@
 -- Masks in a pile, and masks that agree on the commands.
-use Rattle.std.proofs.Common.{◌≡◌, ℕ, zero, suc, ◌/◌, ◌%◌, ◌^◌, ◌<◌, ◌≤◌, Bool, true, false, ◌||◌, eqb, ◌⊎◌, Some, None, Option, sym, refl, ap, ◌∙◌, inl, inr, mod-lt, arith, pow_mono}
+use Rattle.std.proofs.Common.{◌≡◌, ℕ, zero, suc, ◌/◌, ◌%◌, ◌^◌, ◌<◌, ◌≤◌, Bool, true, false, ◌||◌, eqb, Some, None, Option, sym, refl, ap, ◌∙◌, inl, inr, mod-lt, arith, pow_mono}
 use mathlib.Core.Path.{fun_ext}
 use native.Mathlib.Nat.{div-eq_of_lt}
 use lib.Bits.{bit_and, bit_or}
 use Rattle.std.proofs.lemmas.Nat.{and_mask, or_shr, or_mod}
 use Rattle.std.proofs.lemmas.Bool.{cases_lt}
 use Rattle.system.specs.Transitions.{Transitions, LawfulTransitions}
-use Rattle.system.specs.Justice.{FairSystem, Lawful}
-use Rattle.system.specs.Masks.{bit, unless, masked_steps, masked, PilesAreUnions, HighBitsDoNothing}
+use Rattle.system.specs.Justice.{FairSystem}
+use Rattle.system.specs.Masks.{bit, unless, PilesAreUnions, HighBitsDoNothing}
 
 -- The lowest bit after a shift by k is bit k.
 pub bit_shifted : (m k : ℕ) → eqb (bit_and (m / 2 ^ k) 1) 1 ≡ bit m k

@@ -1,6 +1,6 @@
 -- A system: a transition system whose commands are sorted into justice classes; justice, which is weak
 -- fairness by class; and what a lock should be. Assumes nothing.
-use Rattle.std.specs.Prelude.{◌≡◌, ℕ, ◌<◌, ◌≤◌, ◌⊎◌, Some, None, Option}
+use Rattle.std.specs.Prelude.{◌≡◌, ℕ, ◌<◌, ◌≤◌, ◌⊎◌, Some, Option}
 use Rattle.system.specs.Transitions.{Transitions, LawfulTransitions, Enabled}
 use Rattle.system.specs.Runs.{Step, command, rest, Run, ReachesClash, LeavesTrying}
 

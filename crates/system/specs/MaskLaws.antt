@@ -1,5 +1,5 @@
 -- A lawful system under a mask is lawful. Assumes nothing.
-use Rattle.std.specs.Prelude.{◌≡◌, ℕ, Bool, true, false, Some, None, Option}
+use Rattle.std.specs.Prelude.{◌≡◌, ℕ, Bool, true, false, Some, Option}
 use Rattle.std.proofs.Common.{arith}
 use Rattle.system.specs.Transitions.{Transitions, LawfulTransitions}
 use Rattle.system.specs.Justice.{FairSystem, Lawful}

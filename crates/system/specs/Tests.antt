@@ -1,5 +1,5 @@
 -- The questions of a system as tests that compute. Assumes nothing.
-use Rattle.std.specs.Prelude.{ℕ, zero, suc, Bool, true, false, ◌&&◌, ◌||◌, is_some, Some, None, Option, ◌==◌, count_ones, nat_le}
+use Rattle.std.specs.Prelude.{ℕ, zero, suc, Bool, false, ◌&&◌, ◌||◌, is_some, Some, None, Option, ◌==◌, count_ones, nat_le}
 use Rattle.system.specs.Transitions.{Transitions, holder_mask_lem}
 use Rattle.system.specs.Justice.{FairSystem}
 

@@ -1,5 +1,5 @@
 -- A transition system, and what its processes do in a state. Nothing here knows of classes. Assumes nothing.
-use Rattle.std.specs.Prelude.{◌≡◌, ℕ, zero, suc, ◌+◌, ◌*◌, ◌^◌, ◌<◌, ◌≤◌, ◌⊎◌, Some, None, Option, count_ones}
+use Rattle.std.specs.Prelude.{◌≡◌, ℕ, zero, suc, ◌+◌, ◌*◌, ◌^◌, ◌<◌, ◌≤◌, ◌⊎◌, Some, Option, count_ones}
 use Rattle.system.specs.declared.Region.{Region}
 use Rattle.system.specs.declared.Region.TheVariants.{Idle, Try, Crit, Exit}
 

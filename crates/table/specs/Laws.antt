@@ -1,8 +1,8 @@
 -- The system of a table is lawful. Assumes nothing.
-use Rattle.std.specs.Prelude.{◌≡◌, ℕ, ◌+◌, ◌*◌, ◌<◌, ◌≤◌, Bool, true, false, cond, ◌&&◌, ◌⊎◌, List, length, Some, None, Option, nat_lt, slice_index_or, refl}
-use Rattle.std.proofs.Common.{sym, ◌∙◌, ap, inl, inr, arith}
+use Rattle.std.specs.Prelude.{◌≡◌, ℕ, ◌+◌, ◌*◌, ◌<◌, ◌≤◌, Bool, true, false, cond, ◌&&◌, ◌⊎◌, List, Some, None, Option, nat_lt, slice_index_or, refl}
+use Rattle.std.proofs.Common.{inl, inr, arith}
 use Rattle.std.proofs.lemmas.Bool.{ltb-true, le-ltb, and_parts, and_left, and_right}
-use Rattle.system.specs.Justice.{FairSystem, Lawful}
+use Rattle.system.specs.Justice.{Lawful}
 use Rattle.system.specs.declared.Region.{Region}
 use Rattle.system.specs.declared.Region.TheVariants.{Idle}
 use Rattle.table.specs.declared.shape.Shape.{Shape}

@@ -1,5 +1,5 @@
 -- A lock written out in arrays, and the system that they mean. Assumes nothing.
-use Rattle.std.specs.Prelude.{◌≡◌, ℕ, ◌+◌, ◌*◌, ◌<◌, ◌≤◌, cond, ◌&&◌, List, length, Some, None, Option, nat_lt, slice_index_or}
+use Rattle.std.specs.Prelude.{◌≡◌, ℕ, ◌+◌, ◌*◌, ◌<◌, cond, ◌&&◌, List, length, Some, None, Option, nat_lt, slice_index_or}
 use Rattle.system.specs.Justice.{FairSystem}
 use Rattle.system.specs.declared.Region.{Region}
 use Rattle.system.specs.declared.Region.TheVariants.{Idle}

@@ -1,4 +1,4 @@
-use Rattle.std.proofs.Common.{◌≡◌, Some, None, Option, sym, ◌∙◌}
+use Rattle.std.proofs.Common.{Some, None, sym, ◌∙◌}
 use Rattle.run_rules.proofs.Walks.{idle_end, idle_more}
 use Rattle.run_check.proofs.judging.idle_at.Goals as goal
 

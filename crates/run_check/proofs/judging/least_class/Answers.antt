@@ -1,4 +1,4 @@
-use Rattle.std.proofs.Common.{◌≡◌, true, false, sym, ◌∙◌}
+use Rattle.std.proofs.Common.{true, false, sym, ◌∙◌}
 use Rattle.system.specs.Masks.{bit}
 use Rattle.run_rules.proofs.Walks.{least_more, least_end}
 use Rattle.run_check.proofs.judging.least_class.Goals as goal

@@ -1,4 +1,4 @@
-use Rattle.std.proofs.Common.{◌≡◌, ap, ◌∙◌, arith}
+use Rattle.std.proofs.Common.{ap, ◌∙◌, arith}
 use Rattle.system.specs.Masks.{bit}
 use Rattle.run_rules.specs.Judging.{neglected, least}
 use Rattle.run_rules.proofs.Walks.{least_same}

@@ -1,4 +1,4 @@
-use Rattle.std.proofs.Common.{◌≡◌, ◌&&◌, Some, None, sym, ap, ◌∙◌}
+use Rattle.std.proofs.Common.{◌&&◌, Some, None, sym, ap, ◌∙◌}
 use Rattle.system.specs.Masks.{bit}
 use Rattle.run_rules.specs.Judging.{neglected}
 use Rattle.run_rules.proofs.Bits.{bit_full, neglected_turn}

@@ -1,4 +1,4 @@
-use Rattle.std.proofs.Common.{◌≡◌, false, not, ◌&&◌, ◌||◌, eqb, sym, ap, ◌∙◌, arith}
+use Rattle.std.proofs.Common.{◌≡◌, false, not, ◌&&◌, eqb, ap, ◌∙◌, arith}
 use Rattle.system.specs.Masks.{bit}
 use Rattle.system.specs.Tests.{is_class, enables, some_below}
 use Rattle.run_rules.proofs.Bits.{bit_none, bit_put, owed_more, or_false}

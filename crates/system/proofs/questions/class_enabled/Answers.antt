@@ -1,4 +1,4 @@
-use Rattle.std.proofs.Common.{◌≡◌, ℕ, ◌<◌, Bool, true, false, sym, ap, ◌∙◌, arith}
+use Rattle.std.proofs.Common.{◌≡◌, ◌<◌, true, false, sym, ap, ◌∙◌, arith}
 use Rattle.system.specs.Tests.{some_below, enables, class_enabled_lem}
 use Rattle.system.proofs.Decided.{none_more, some_here, class_enabled_told}
 use Rattle.system.proofs.questions.class_enabled.Goals as goal

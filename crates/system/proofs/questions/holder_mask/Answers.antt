@@ -1,5 +1,4 @@
-use Rattle.std.proofs.Common.{◌≡◌, ℕ, ◌+◌, ◌^◌, ◌<◌, ◌≤◌, sym, ap, ◌∙◌, arith}
-use Rattle.system.specs.Transitions.{holders_below}
+use Rattle.std.proofs.Common.{◌≡◌, ◌+◌, ◌^◌, ◌<◌, sym, ◌∙◌, arith}
 use Rattle.system.proofs.Holders.{or_place, doubled, holders_more, holder_bit_one, holder_bit_zero}
 use Rattle.system.proofs.questions.holder_mask.Goals as goal
 use Rattle.system.proofs.questions.holder_mask.Goals.{in-Crit, in_default}
