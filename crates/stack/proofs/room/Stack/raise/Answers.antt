@@ -1,4 +1,4 @@
-use Rattle.std.proofs.Common.{◌≡◌, set, sym, refl, ap, arith, length-set}
+use Rattle.std.proofs.Common.{set, sym, refl, ap, arith, length-set}
 use Rattle.stack.proofs.Rooms.{pushed, counted}
 use Rattle.stack.proofs.room.Stack.raise.Goals as goal
 
