@@ -1,10 +1,10 @@
 -- The proofs about numbers of four bytes.
-use Rattle.std.proofs.Common.{◌≡◌, ℕ, suc, ◌+◌, ◌-◌, ◌*◌, ◌/◌, ◌%◌, ◌^◌, ◌<◌, ◌≤◌, List, [], ◌∷◌, ◌++◌, length, get_or, take, drop, set, sym, refl, ap, ◌∙◌, mod-eq_of_lt, arith, lit<}
+use Rattle.std.proofs.Common.{◌≡◌, ℕ, ◌+◌, ◌-◌, ◌*◌, ◌/◌, ◌%◌, ◌<◌, ◌≤◌, List, [], ◌∷◌, ◌++◌, length, get_or, take, drop, sym, refl, ap, ◌∙◌, mod-eq_of_lt, arith, lit<}
 use native.Mathlib.Nat.{div-div-eq-div-mul}
 use borrow.Rule.Slice.PartMut.{put_mid}
 use Rattle.std.proofs.lemmas.List.{get_or_at, get_or-append-add, drop_more, drop-drop}
 use Rattle.std.proofs.lemmas.Nat.{div-mul-add, mod-mul-add, div-add-mod', div_below}
-use Rattle.byte_numbers.specs.Numbers.{number_at, encoded, overwritten, Bytes, WrittenIsRead, ReadIsWritten}
+use Rattle.byte_numbers.specs.Numbers.{number_at, encoded, overwritten, WrittenIsRead, ReadIsWritten}
 
 pub written_is_read_lem : WrittenIsRead
 written_is_read_lem n h before after =

@@ -1,5 +1,5 @@
 -- The width of an entry is that of its fields; and what the answer of reading says. Assumes nothing.
-use Rattle.std.proofs.Common.{◌≡◌, ℕ, ◌+◌, List, Ok, Err, Result, sym, refl, subst}
+use Rattle.std.proofs.Common.{◌≡◌, ℕ, ◌+◌, List, Ok, Err, Result, sym, refl}
 use Rattle.certificate_theory.specs.declared.limits.Limits.{Limits}
 use Rattle.certificate_theory.specs.declared.refusal.Refusal.{Refusal}
 use Rattle.certificate_theory.specs.Fields.{widths}

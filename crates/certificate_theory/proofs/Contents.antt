@@ -1,10 +1,10 @@
 -- What the bytes say, read by places. Assumes nothing.
-use Rattle.std.proofs.Common.{◌≡◌, ℕ, zero, suc, ◌+◌, ◌*◌, ◌<◌, ◌≤◌, List, [], ◌∷◌, length, get_or, sym, refl, ap, ◌∙◌, subst, arith}
+use Rattle.std.proofs.Common.{◌≡◌, ℕ, zero, suc, ◌+◌, ◌*◌, ◌<◌, ◌≤◌, List, [], length, get_or, sym, refl, ap, ◌∙◌, subst, arith}
 use Rattle.std.specs.List.{ContainsAt as Has}
 use Rattle.byte_numbers.specs.Numbers.{number_at}
 use Rattle.rank.specs.declared.Row.{Row}
 use Rattle.rank.specs.Kinds.{numbers_at}
-use Rattle.rank_rule.specs.Certificate.{Certificate, Listed, rows_of, RowAt, HasRow}
+use Rattle.rank_rule.specs.Certificate.{Listed, rows_of, RowAt}
 use Rattle.certificate_theory.specs.declared.limits.Limits.{Limits}
 use Rattle.certificate_theory.specs.Fields.{list_end}
 use Rattle.certificate_theory.specs.Content.{row_at, rows_at, row_lists_at, content, list_start, rows_start}

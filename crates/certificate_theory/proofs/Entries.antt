@@ -1,13 +1,12 @@
 -- What right entries are: a list of states that lies within the bytes and ascends. Assumes nothing.
-use Rattle.std.proofs.Common.{◌≡◌, ℕ, zero, suc, ◌+◌, ◌*◌, ◌<◌, ◌≤◌, ◌⊎◌, List, [], ◌∷◌, ◌++◌, length, get_or, Some, None, Option, sym, refl, ap, ◌∙◌, subst, inl, inr, mul-suc, arith}
+use Rattle.std.proofs.Common.{◌≡◌, ℕ, zero, suc, ◌+◌, ◌*◌, ◌<◌, List, [], get_or, Some, None, Option, sym, refl, ap, ◌∙◌, subst, mul-suc, arith}
 use Rattle.byte_numbers.specs.Numbers.{number_at}
 use Rattle.certificate_theory.specs.declared.limits.Limits.{Limits}
-use Rattle.certificate_theory.specs.declared.refusal.Refusal.{Refusal}
-use Rattle.certificate_theory.specs.Fields.{Field, kind, count, state, class, number, width, widths, rank_fields, row_tail, entries, list_fields, list_end, row_lists, fields}
-use Rattle.certificate_theory.specs.Reading.{RightContent, Right, AllRight, Reads, first_of, field_fault, first_fault}
+use Rattle.certificate_theory.specs.Fields.{Field, state, widths, rank_fields, row_tail, entries, list_fields, list_end, row_lists}
+use Rattle.certificate_theory.specs.Reading.{Right, AllRight, Reads}
 use Rattle.certificate_theory.specs.Content.{list_start, rows_start}
 use Rattle.certificate_theory.specs.Lists.{StateList}
-use Rattle.certificate_theory.proofs.Scans.{widths_append, right_within, right_append, fault_append}
+use Rattle.certificate_theory.proofs.Scans.{widths_append, right_within, right_append}
 
 pub entry_after : (w at i : ℕ) → (at + w) + w * i ≡ at + w * suc i
 entry_after w at i = let h = mul-suc w i in omega arith

@@ -1,5 +1,5 @@
 -- A state found in a list is what the certificate says; and states out of range have no part in the rule. Assumes nothing.
-use Rattle.std.proofs.Common.{◌≡◌, ℕ, zero, suc, ◌+◌, ◌*◌, ◌<◌, ◌≤◌, ◌⊎◌, ◌↔◌, List, length, Some, None, Option, sym, refl, ap, ◌∙◌, subst, inl, inr, mul-le-mul_left, mul-add, arith}
+use Rattle.std.proofs.Common.{◌≡◌, ℕ, ◌+◌, ◌*◌, ◌<◌, ◌≤◌, ◌⊎◌, List, length, Some, None, sym, refl, ap, ◌∙◌, subst, inl, inr, mul-le-mul_left, mul-add, arith}
 use Rattle.byte_numbers.specs.Numbers.{number_at}
 use Rattle.system.specs.Justice.{FairSystem, Lawful}
 use Rattle.rank.specs.declared.Row.{Row}
@@ -12,9 +12,9 @@ use Rattle.certificate_theory.specs.declared.limits.Limits.{Limits}
 use Rattle.certificate_theory.specs.Fields.{list_end}
 use Rattle.certificate_theory.specs.Reading.{Reads}
 use Rattle.certificate_theory.specs.Content.{limits_of_lem, row_at, content, rows_start}
-use Rattle.certificate_theory.specs.Lists.{state_of, Ascends, StateList, Found}
+use Rattle.certificate_theory.specs.Lists.{state_of, Ascends, Found}
 use Rattle.certificate_theory.specs.Judging.{HoldsAt, Holds}
-use Rattle.certificate_theory.specs.Points.{OnlyRow, RowFound}
+use Rattle.certificate_theory.specs.Points.{OnlyRow}
 use Rattle.certificate_theory.proofs.Entries.{listed_list, rows_list}
 use Rattle.certificate_theory.proofs.Contents.{lists_past, place_listed, listed_place, row_place, place_row, row_place_of}
 

@@ -1,5 +1,5 @@
 -- The clauses in their order: what a loop over them finds, and that the right answer is one. Assumes nothing.
-use Rattle.std.proofs.Common.{◌≡◌, ℕ, zero, suc, ◌+◌, ◌<◌, ◌≤◌, ◌⊎◌, List, [], ◌∷◌, ◌++◌, length, get_or, take, drop, Some, None, Ok, Err, Option, Result, sym, refl, ap, ◌∙◌, subst, inl, inr, add-one, arith, take-append-drop, drop-cons}
+use Rattle.std.proofs.Common.{◌≡◌, ℕ, suc, ◌+◌, ◌<◌, ◌≤◌, ◌⊎◌, List, [], ◌∷◌, ◌++◌, length, get_or, take, drop, Some, None, Ok, Err, Result, sym, refl, ap, ◌∙◌, subst, inl, inr, add-one, arith, take-append-drop, drop-cons}
 use Rattle.std.specs.List.{ContainsAt as Has}
 use Rattle.std.proofs.lemmas.List.{take_more, take_all}
 use Rattle.std.proofs.ByRecursion.{has_push_cases}
@@ -16,7 +16,7 @@ use Rattle.certificate_theory.specs.Refusals.{broken, order}
 use Rattle.certificate_theory.specs.Reading.{Reads, ReadingRefused}
 use Rattle.certificate_theory.specs.Claims.{AcceptedOrRefused, OneRefusal}
 use Rattle.certificate_theory.specs.Content.{limits_of_lem, content}
-use Rattle.certificate_theory.specs.Judging.{HoldsAt, Holds, Before, RuleRefused, Certifies, Refused, Answered, Judged}
+use Rattle.certificate_theory.specs.Judging.{HoldsAt, Holds, Before, RuleRefused, Certifies, Answered, Judged}
 use Rattle.certificate_theory.specs.Points.{LeastPoint}
 use Rattle.certificate_theory.proofs.Points.{everywhere, least_of_all}
 use Rattle.certificate_theory.proofs.Scans.{none_fault, some_fault}

@@ -1,5 +1,5 @@
 -- One state more, in a search for the least point. Assumes nothing.
-use Rattle.std.proofs.Common.{◌≡◌, ℕ, suc, ◌+◌, ◌<◌, ◌≤◌, ◌⊎◌, Some, None, Option, sym, refl, ◌∙◌, subst, inl, inr, arith}
+use Rattle.std.proofs.Common.{◌≡◌, ℕ, ◌+◌, ◌<◌, ◌≤◌, ◌⊎◌, Some, None, Option, sym, subst, inl, inr, arith}
 use Rattle.certificate_theory.specs.declared.point.Point.{Point}
 use Rattle.certificate_theory.specs.declared.point.Spot.{Spot}
 use Rattle.certificate_theory.specs.Judging.{Before}

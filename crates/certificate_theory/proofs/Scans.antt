@@ -1,11 +1,11 @@
 -- The first fault of reading decides, and it is one. Assumes nothing.
-use Rattle.std.proofs.Common.{◌≡◌, ℕ, zero, suc, ◌+◌, ◌<◌, ◌≤◌, Bool, true, false, cond, ltb, leb, ◌⊎◌, List, [], ◌∷◌, ◌++◌, length, Some, None, Option, sym, refl, ap, ◌∙◌, subst, inl, inr, add-zero, add_assoc, arith}
+use Rattle.std.proofs.Common.{◌≡◌, ℕ, ◌+◌, ◌≤◌, Bool, true, false, cond, ltb, leb, ◌⊎◌, List, [], ◌∷◌, ◌++◌, length, Some, None, Option, sym, refl, ap, ◌∙◌, subst, inl, inr, arith}
 use Rattle.std.proofs.lemmas.Bool.{ltb-true, ltb-false, lt-ltb, le-ltb, leb-true, leb-false, le-leb, lt-leb}
 use Rattle.certificate_theory.specs.declared.limits.Limits.{Limits}
 use Rattle.certificate_theory.specs.declared.refusal.Refusal.{Refusal}
 use Rattle.certificate_theory.specs.declared.refusal.Refusal.TheVariants.{Length}
-use Rattle.certificate_theory.specs.Fields.{Field, kind, count, state, class, number, width, widths, fields}
-use Rattle.certificate_theory.specs.Reading.{RightContent, Right, AllRight, Reads, Fault, FieldRefused, SurplusRefused, ReadingRefused, is_right, first_of, fault, field_fault, first_fault, reading_fault, is_none, reads_whole}
+use Rattle.certificate_theory.specs.Fields.{Field, width, widths, fields}
+use Rattle.certificate_theory.specs.Reading.{Right, AllRight, Reads, Fault, ReadingRefused, is_right, first_of, fault, field_fault, first_fault, reading_fault, is_none, reads_whole}
 use Rattle.certificate_theory.proofs.Tests.{true_or_false, not_both, right_means, means_right}
 
 -- Answers of two tests in a row.

@@ -1,5 +1,5 @@
 -- What a loop over processes or commands finds. Assumes nothing.
-use Rattle.std.proofs.Common.{◌≡◌, ℕ, ◌+◌, ◌<◌, ◌≤◌, false, Some, None, Decides, refl, arith, below_more}
+use Rattle.std.proofs.Common.{◌≡◌, ℕ, ◌<◌, ◌≤◌, false, Some, None, Decides, arith}
 use Rattle.system.specs.Justice.{FairSystem, Lawful}
 use Rattle.certificate_theory.specs.declared.point.Spot.{Spot}
 use Rattle.certificate_theory.specs.Points.{LeastSpot}

@@ -1,12 +1,10 @@
 -- The tests of reading say what they stand for. Assumes nothing.
-use Rattle.std.proofs.Common.{◌≡◌, ℕ, ◌+◌, ◌<◌, ◌≤◌, Bool, true, false, cond, ◌&&◌, eqb, ltb, leb, ◌⊎◌, List, length, get_or, Some, None, Option, sym, refl, ◌∙◌, inl, inr, arith}
+use Rattle.std.proofs.Common.{◌≡◌, ℕ, Bool, true, false, ◌&&◌, ltb, ◌⊎◌, List, get_or, Some, None, Option, refl, inl, inr, arith}
 use Rattle.std.proofs.lemmas.Bool.{ltb-true, eqb-true, lt-ltb, eq-eqb, and_parts}
 use Rattle.byte_numbers.specs.Numbers.{number_at}
 use Rattle.certificate_theory.specs.declared.limits.Limits.{Limits}
-use Rattle.certificate_theory.specs.declared.refusal.Refusal.{Refusal}
-use Rattle.certificate_theory.specs.declared.refusal.Refusal.TheVariants.{Length}
-use Rattle.certificate_theory.specs.Fields.{Field, kind, count, state, class, number, width}
-use Rattle.certificate_theory.specs.Reading.{Above, RightContent, Right, Fault, is_above_lem, is_right, fault, field_fault}
+use Rattle.certificate_theory.specs.Fields.{Field, kind, count, state, class, number}
+use Rattle.certificate_theory.specs.Reading.{Above, RightContent, is_above_lem, is_right}
 
 pub true_or_false : (b : Bool) → (b ≡ true) ⊎ (b ≡ false)
 true_or_false true = inl refl

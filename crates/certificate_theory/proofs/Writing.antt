@@ -6,7 +6,7 @@ use Rattle.byte_numbers.proofs.Numbers.{read_is_written_lem}
 use Rattle.rank.specs.Kinds.{numbers_at}
 use Rattle.certificate_theory.specs.declared.limits.Limits.{Limits}
 use Rattle.certificate_theory.specs.Claims.{ReadIsWritten}
-use Rattle.certificate_theory.specs.Fields.{list_end, widths, fields}
+use Rattle.certificate_theory.specs.Fields.{list_end}
 use Rattle.certificate_theory.specs.Reading.{Reads}
 use Rattle.certificate_theory.specs.Content.{row_at, rows_at, row_lists_at, content, list_start, rows_start}
 use Rattle.certificate_theory.specs.Encoding.{numbers_bytes, row_bytes, rows_bytes, row_lists_bytes, certificate_bytes}

@@ -1,6 +1,6 @@
 -- Kinds of rank. A rank is its numbers; a kind says how many they are, and which rank is below which, or the same.
 -- Assumes nothing.
-use Rattle.std.specs.Prelude.{◌≡◌, ℕ, zero, suc, ◌+◌, ◌*◌, Bool, true, cond, ◌&&◌, ◌||◌, List, [], ◌∷◌, Some, None, Option, ◌==◌, nat_lt, slice_index}
+use Rattle.std.specs.Prelude.{◌≡◌, ℕ, zero, suc, ◌+◌, Bool, true, cond, ◌&&◌, ◌||◌, List, [], ◌∷◌, Some, None, Option, ◌==◌, nat_lt, slice_index}
 use Rattle.byte_numbers.specs.Numbers.{number_at}
 
 -- `byte` is the kind byte of a certificate with such ranks, `numbers` how many numbers of four bytes a rank has.

@@ -1,6 +1,6 @@
 -- What each kind of rank proves. Assumes nothing.
-use Rattle.std.specs.Prelude.{◌≡◌, ℕ, suc, List}
-use Rattle.rank.specs.Kinds.{Kind, Below, Same, single_kind, pair_kind}
+use Rattle.std.specs.Prelude.{ℕ, suc, List}
+use Rattle.rank.specs.Kinds.{Kind, Below, Same}
 
 -- Same is an equivalence, same ranks stand alike on both sides of below, and no chain falls for ever.
 pub record LawfulKind (K : Kind) : Type 0 where

@@ -1,8 +1,8 @@
 -- The laws of the two kinds. Assumes nothing.
-use Rattle.std.specs.Prelude.{◌≡◌, ℕ, suc, ◌<◌, Bool, true, false, ◌&&◌, ◌||◌, ◌⊎◌, List, ◌==◌, nat_lt, slice_index, refl}
+use Rattle.std.specs.Prelude.{◌≡◌, ℕ, suc, Bool, true, false, ◌&&◌, ◌||◌, ◌⊎◌, List, ◌==◌, nat_lt, slice_index, refl}
 use Rattle.std.proofs.Common.{sym, ◌∙◌, inl, inr, arith}
 use Rattle.std.proofs.lemmas.Bool.{ltb-true, eqb-true, lt-ltb, eq-eqb, or_cases, and_parts}
-use Rattle.rank.specs.Kinds.{Kind, Below, Same, single_kind, pair_kind}
+use Rattle.rank.specs.Kinds.{Below, Same, single_kind, pair_kind}
 use Rattle.rank.specs.Laws.{LawfulKind}
 use Rattle.rank.specs.Falling.{Lower, numbers_never_fall, pairs_never_fall}
 

@@ -1,18 +1,18 @@
 -- A certificate that meets the rank rule shows the lock correct. Assumes nothing.
 -- Along a just run on which p waits for ever, follow the rows of p at its states. From each row the rank falls or it is
 -- kept with its class, which is enabled and not taken; justice ends that. So the rank falls again and again, for ever.
-use Rattle.std.proofs.Common.{◌≡◌, ℕ, zero, suc, ◌<◌, ◌≤◌, ◌⊎◌, List, Some, sym, refl, ◌∙◌, subst, inl, inr, arith}
+use Rattle.std.proofs.Common.{◌≡◌, ℕ, zero, suc, ◌<◌, ◌≤◌, ◌⊎◌, List, sym, refl, ◌∙◌, subst, inl, inr, arith}
 use native.Mathlib.Decide.{le_ind}
 use Rattle.system.specs.Transitions.{Waits}
-use Rattle.system.specs.Runs.{Step, command, rest, Leads, Run, LeavesTrying}
+use Rattle.system.specs.Runs.{Step, command, rest, Leads, Run}
 use Rattle.system.specs.Justice.{FairSystem, Lawful, ClassEnabled, OfClass, InfinitelyOften, Just}
 use Rattle.rank.specs.declared.Row.{Row}
 use Rattle.rank.specs.Kinds.{Kind, Below, Same}
 use Rattle.rank.specs.Laws.{LawfulKind}
 use Rattle.rank.specs.Rows.{Falls}
 use Rattle.rank_rule.specs.Certificate.{Certificate, Listed, RowAt}
-use Rattle.rank_rule.specs.Rule.{StartListed, SuccessorsListed, RowsExact, ClassesEnabled, RanksFall, MeetsRule}
-use Rattle.rank_rule.specs.Claims.{CertifiedIsCorrect, RankRuleIsSound, RowsKeepOutLockout}
+use Rattle.rank_rule.specs.Rule.{StartListed, SuccessorsListed, RowsExact, ClassesEnabled, RanksFall}
+use Rattle.rank_rule.specs.Claims.{RankRuleIsSound, RowsKeepOutLockout}
 
 module _ (S : FairSystem) (C : Certificate) (start : StartListed S C) (closed : SuccessorsListed S C) where
   leads_listed : (s t : ℕ) (a : Step) → Listed C s → Leads S.steps s a t → Listed C t

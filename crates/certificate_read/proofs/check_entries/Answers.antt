@@ -1,11 +1,10 @@
-use Rattle.std.proofs.Common.{◌≡◌, ℕ, ◌+◌, ◌-◌, ◌*◌, ◌≤◌, ◌∷◌, Some, None, sym, ap, ◌∙◌, subst, mul-suc, add-one, arith}
+use Rattle.std.proofs.Common.{◌≡◌, ℕ, ◌+◌, ◌-◌, ◌*◌, ◌≤◌, ◌∷◌, Some, None, sym, ◌∙◌, subst, mul-suc, add-one, arith}
 use Rattle.std.proofs.lemmas.Result.{err_from_is_err_and}
-use Rattle.byte_numbers.specs.Numbers.{number_at}
-use Rattle.certificate_theory.specs.Fields.{Field, state, widths, entries}
+use Rattle.certificate_theory.specs.Fields.{state, widths, entries}
 use Rattle.certificate_theory.specs.Reading.{first_fault}
 use Rattle.certificate_theory.proofs.Scans.{first_of_none, first_of_some}
 use Rattle.certificate_theory.proofs.Loops.{entries_turn}
-use Rattle.certificate_read.specs.Views.{tail_of, entry_width_lem}
+use Rattle.certificate_read.specs.Views.{tail_of}
 use Rattle.certificate_read.proofs.Widths.{entry_widths}
 use Rattle.certificate_read.proofs.check_entries.Goals as goal
 

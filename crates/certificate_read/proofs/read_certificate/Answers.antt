@@ -1,4 +1,4 @@
-use Rattle.std.proofs.Common.{◌≡◌, ◌≤◌, subst}
+use Rattle.std.proofs.Common.{◌≡◌, subst}
 use Rattle.certificate_theory.specs.declared.limits.Limits.{Limits}
 use Rattle.certificate_theory.specs.Reading.{reading_fault}
 use Rattle.certificate_theory.specs.Content.{limits_of_lem}

@@ -1,8 +1,8 @@
-use Rattle.std.proofs.Common.{◌≡◌, ℕ, ◌<◌, ◌≤◌, length, get_or, Some, None, sym, refl, ap, ◌∙◌, subst, arith, rules}
+use Rattle.std.proofs.Common.{◌≡◌, ℕ, ◌<◌, get_or, Some, None, sym, ap, ◌∙◌, subst, arith}
 use Rattle.std.proofs.lemmas.Result.{err_from_is_err_and}
 use Rattle.certificate_theory.specs.declared.refusal.Refusal.TheVariants.{Length}
-use Rattle.certificate_theory.specs.Fields.{kind, list_end, row_lists}
-use Rattle.certificate_theory.specs.Reading.{field_fault, first_fault, reading_fault}
+use Rattle.certificate_theory.specs.Fields.{list_end, row_lists}
+use Rattle.certificate_theory.specs.Reading.{first_fault}
 use Rattle.certificate_theory.specs.Content.{list_start, rows_start}
 use Rattle.certificate_theory.proofs.Loops.{kind_right, at_listed, at_rows, at_surplus, at_end}
 use Rattle.certificate_read.proofs.read_fields.Goals as goal
