@@ -15,6 +15,6 @@ returns-in-err-mark c =
 pub returns : goal.returns
 returns c = (
   refl,
-  mark_token c.args.text.now c.args.start c.equals-at.result c.width.result c.requires.inside c.requires.no-letter c.requires.no_digit c.in-ok-mark.mark
-      c.equals-at.ensures c.in-ok-mark.ensures.same c.in-ok-mark.ensures.begins c.width.ensures,
+  mark_token c.args.text.now c.args.start c.equals_at.result c.width.result c.requires.inside c.requires.no_letter c.requires.no_digit c.in_ok-mark.mark
+      c.equals_at.ensures c.in_ok-mark.ensures.same c.in_ok-mark.ensures.begins c.width.ensures,
 )

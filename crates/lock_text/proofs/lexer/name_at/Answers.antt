@@ -12,8 +12,8 @@ returns-then-end-start-gt-MAX-NAME c =
 
 pub returns : goal.returns
 returns c =
-    let k = name_ends c.args.text.now c.args.start c.run-end-end.result c.requires.inside c.requires.letter c.run-end-end.ensures in
-    let Here : Token → Type 0 = λ x. TokenAt c.args.text.now c.args.start (content x) c.run-end-end.result in (
+    let k = name_ends c.args.text.now c.args.start c.run_end-end.result c.requires.inside c.requires.letter c.run_end-end.ensures in
+    let Here : Token → Type 0 = λ x. TokenAt c.args.text.now c.args.start (content x) c.run_end-end.result in (
       refl,
       elim c.match-reserved.branch [
         | in-Some w ↦ subst Here (sym w.token-is) (word_token _ _ _ k w.in-Some.word w.in-Some.ensures)

@@ -9,4 +9,4 @@ returns-then-end-start-gt-MAX-DIGITS c =
 
 pub returns : goal.returns
 returns c =
-    (refl, number_token c.args.text.now c.args.start c.run-end-end.result c.requires.inside c.requires.digit c.run-end-end.ensures (omega arith))
+    (refl, number_token c.args.text.now c.args.start c.run_end-end.result c.requires.inside c.requires.digit c.run_end-end.ensures (omega arith))
