@@ -1,4 +1,4 @@
-use Rattle.std.proofs.Common.{◌≡◌, ◌+◌, ◌<◌, ◌≤◌, [], ◌∷◌, ◌++◌, length, Ok, Option, ◌∙◌, subst, arith}
+use Rattle.std.proofs.Common.{◌≡◌, ◌<◌, ◌≤◌, [], ◌∷◌, ◌++◌, length, Ok, Option, subst, arith}
 use Rattle.std.proofs.lemmas.List.{length_push}
 use Rattle.lock_text.specs.Tokens.{NextToken, content}
 use Rattle.lock_text.specs.Lexing.{Lexes}
