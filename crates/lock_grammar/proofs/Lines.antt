@@ -129,7 +129,7 @@ commands_counted {p} {j} {n} {variables} {locations} d = let q = repeated_adds (
     one_more a b ts (G.command pr f t c g h) = length_push a _
 
 pub well_formed : WellFormedPrograms
-well_formed p ls (G.lock_text_lem {p = processes} {j = j} {variables = variables} {locations = locations} {commands = commands} a b vs c lines d e cs few states) =
+well_formed p ls (G.lock_text {p = processes} {j = j} {variables = variables} {locations = locations} {commands = commands} a b vs c lines d e cs few states) =
     let v = variables_good vs in
     let n = variables_even vs in
     let l = locations_even lines in

@@ -96,7 +96,7 @@ pub data OneCommand (processes classes : ℕ) (variables locations : List Name) 
 -- A whole text: `procs` P, `vars` V and the variables, `locs` L and the locations, `classes` J, `cmds` K and the
 -- commands, within the limits on items and states.
 pub data LockText : Program → List Lexeme → Type 0 where
-  lock_text_lem :
+  lock_text :
       {p v l j k : ℕ} {variables : Variables} {locations : Locations} {commands : List Command} {a b c d e : Lexeme} {vs ls cs : List Lexeme} →
       Numeral 1 (max_processes + 1) p a →
       Numeral 0 (max_variables + 1) v b → Repeated Variable v no_variables variables vs →
