@@ -1,5 +1,5 @@
 -- What the grammar derives within the limits, the reading accepts; so the same tokens are one tree. Assumes nothing.
-use Rattle.std.proofs.Common.{◌≡◌, ℕ, zero, suc, ◌+◌, ◌<◌, ◌≤◌, Bool, true, false, cond, eqb, ltb, List, [], ◌∷◌, ◌++◌, length, Some, None, Option, sym, refl, ap, ◌∙◌, subst, arith, length-append, lt-ltb, eq-eqb, ne_eqb}
+use Rattle.std.proofs.Common.{◌≡◌, ℕ, zero, suc, ◌+◌, ◌<◌, ◌≤◌, cond, List, [], ◌∷◌, ◌++◌, length, Some, None, sym, refl, ap, ◌∙◌, subst, arith, length-append, lt-ltb, eq-eqb, ne_eqb}
 use Rattle.lock_text.specs.Spelling.{Lexeme, name, word, mark}
 use Rattle.lock_text.specs.Spelling as Lexemes
 use Rattle.lock_text.specs.declared.token.Word.TheVariants as Words
@@ -8,14 +8,14 @@ use Rattle.token_stream.specs.Streams.{Stream, token, end}
 use Rattle.expression.specs.Tree.{Tree, number, variable, denial, joined, items, operands, max_operands, max_items}
 use Rattle.expression.specs.declared.Operator.{Operator}
 use Rattle.expression.specs.declared.Item.TheVariants as Items
-use Rattle.expression_grammar.specs.Kinds.{Scope, decimal, kind, kind_of_number, kind_of_name, sign, rank, seen, place, behind, size}
-use Rattle.expression_grammar.specs.Reading.{State, Outcome, refused, read, then, past, counted, count_if, count, joining, on_operator, operand_if, operand, Levels, more, chain, atom_at, atom, sum, tested, test, factor_at, factor, term, expression, closed_at, closed, levels}
+use Rattle.expression_grammar.specs.Kinds.{Scope, decimal, kind, kind_of_number, kind_of_name, sign, rank, seen, behind, size}
+use Rattle.expression_grammar.specs.Reading.{State, Outcome, read, then, past, counted, count_if, count, joining, on_operator, operand_if, operand, Levels, more, chain, atom_at, atom, sum, tested, test, factor_at, factor, term, expression, closed_at, closed, levels}
 use Rattle.expression_grammar.specs.Grammar as G
 use Rattle.expression_grammar.specs.Grammar.{Joined, Rules, Atom, Factor, Sum, Term, Expression, rules}
-use Rattle.expression_grammar.specs.Laws.{Begins, front, a_token, after, CompleteReading, OneTree}
+use Rattle.expression_grammar.specs.Laws.{Begins, after, CompleteReading, OneTree}
 use Rattle.expression_grammar.specs.declared.kind.Kind.{Kind}
 use Rattle.expression_grammar.specs.declared.kind.Kind.TheVariants.{Number, Large, Variable, Unknown, Operator as Joins, Not, Open, Close, Other, Misspelt}
-use Rattle.expression_grammar.proofs.Facts.{begins_on, begins_split, begins_size, begins_one, kind_here, kind_of_sign, no_join}
+use Rattle.expression_grammar.proofs.Facts.{begins_split, begins_size, begins_one, kind_here, kind_of_sign, no_join}
 use Rattle.expression_grammar.proofs.Sound.{Relation}
 
 -- the kind joins no parts of rank k or a tighter one

@@ -1,5 +1,5 @@
 -- Streams that begin with some tokens, and what a kind tells of its token. Assumes nothing.
-use Rattle.std.proofs.Common.{◌≡◌, ℕ, zero, suc, ◌+◌, ◌<◌, ◌≤◌, Bool, true, false, cond, eqb, ltb, List, [], ◌∷◌, ◌++◌, length, Some, None, Option, sym, refl, ap, ◌∙◌, subst, arith, ltb-true, lt-ltb, eqb-true}
+use Rattle.std.proofs.Common.{◌≡◌, ℕ, ◌+◌, ◌<◌, Bool, true, false, cond, ltb, List, [], ◌∷◌, ◌++◌, length, Some, None, Option, sym, refl, ap, ◌∙◌, subst, arith, ltb-true, eqb-true}
 use Rattle.lock_text.specs.Spelling.{Lexeme, name, number, word, mark}
 use Rattle.lock_text.specs.declared.token.Word.{Word}
 use Rattle.lock_text.specs.declared.token.Word.TheVariants as Words

@@ -1,5 +1,5 @@
 -- The reading looks no further than the token where it stands. Assumes nothing.
-use Rattle.std.proofs.Common.{◌≡◌, ℕ, zero, suc, ◌+◌, ◌<◌, ◌≤◌, Bool, true, false, ltb, List, [], ◌∷◌, ◌++◌, length, Some, None, Option, sym, refl, ap, ◌∙◌, subst, arith}
+use Rattle.std.proofs.Common.{◌≡◌, ℕ, zero, suc, ◌+◌, ◌≤◌, Bool, true, false, ltb, List, [], ◌∷◌, ◌++◌, Some, None, Option, sym, refl, ap, ◌∙◌, subst, arith}
 use Rattle.lock_text.specs.Spelling.{Lexeme}
 use Rattle.token_stream.specs.Streams.{Stream, token}
 use Rattle.expression.specs.Tree.{Tree, number, variable, denial, joined, max_operands, max_items}
@@ -9,7 +9,7 @@ use Rattle.expression_grammar.specs.Reading.{State, Outcome, refused, read, then
 use Rattle.expression_grammar.specs.Laws.{Begins, front, FirstFault}
 use Rattle.expression_grammar.specs.declared.kind.Kind.{Kind}
 use Rattle.expression_grammar.specs.declared.kind.Kind.TheVariants.{Number, Large, Variable, Unknown, Operator as Joins, Not, Open, Close, Other, Misspelt}
-use Rattle.expression_grammar.proofs.Facts.{begins_on, begins_split, begins_size, begins_one, begins_with, same_front, same_kind, joining_tells, no_operator, operator_here, not_here, open_here, close_here, number_here, variable_here}
+use Rattle.expression_grammar.proofs.Facts.{begins_on, begins_split, begins_size, begins_one, begins_with, same_front, same_kind, joining_tells, operator_here, not_here, open_here, close_here, number_here, variable_here}
 use Rattle.expression_grammar.proofs.Complete.{complete_reading}
 
 abbrev pub at : State → Stream → State

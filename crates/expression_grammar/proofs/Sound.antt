@@ -1,5 +1,5 @@
 -- What the reading accepts, the grammar derives. Assumes nothing.
-use Rattle.std.proofs.Common.{◌≡◌, ℕ, zero, suc, ◌+◌, ◌<◌, ◌≤◌, Bool, true, false, ltb, List, [], ◌∷◌, ◌++◌, length, Some, None, Option, sym, refl, ap, ◌∙◌, subst, arith, length-append, ltb-true}
+use Rattle.std.proofs.Common.{◌≡◌, ℕ, zero, suc, ◌+◌, ◌<◌, ◌≤◌, Bool, true, false, List, [], ◌∷◌, ◌++◌, length, Some, None, Option, refl, subst, arith, length-append, ltb-true}
 use Rattle.lock_text.specs.Spelling.{Lexeme, name, word, mark}
 use Rattle.lock_text.specs.Spelling as Lexemes
 use Rattle.lock_text.specs.declared.token.Word.TheVariants as Words
@@ -7,11 +7,11 @@ use Rattle.lock_text.specs.declared.token.Mark.TheVariants as Marks
 use Rattle.token_stream.specs.Streams.{Stream, token}
 use Rattle.expression.specs.Tree.{Tree, number, variable, denial, joined, items, operands, max_operands, max_items}
 use Rattle.expression.specs.declared.Operator.{Operator}
-use Rattle.expression_grammar.specs.Kinds.{Scope, sign, seen, place, behind, size}
-use Rattle.expression_grammar.specs.Reading.{State, Outcome, refused, read, then, past, counted, count_if, count, joining, on_operator, operand_if, operand, Levels, more, chain, atom_at, atom, sum, tested, test, factor_at, factor, term, expression, closed_at, closed, levels}
+use Rattle.expression_grammar.specs.Kinds.{Scope, sign, seen, place, behind}
+use Rattle.expression_grammar.specs.Reading.{State, Outcome, refused, read, then, past, counted, count_if, count, joining, on_operator, operand_if, operand, Levels, more, chain, atom_at, atom, sum, test, factor_at, factor, term, expression, closed_at, levels}
 use Rattle.expression_grammar.specs.Grammar as G
 use Rattle.expression_grammar.specs.Grammar.{Joined, Rules, Atom, Factor, Sum, Term, Expression, rules}
-use Rattle.expression_grammar.specs.Laws.{Begins, after, SoundReading}
+use Rattle.expression_grammar.specs.Laws.{Begins, SoundReading}
 use Rattle.expression_grammar.specs.declared.kind.Kind.{Kind}
 use Rattle.expression_grammar.specs.declared.kind.Kind.TheVariants.{Number, Large, Variable, Unknown, Operator as Joins, Not, Open, Close, Other, Misspelt}
 use Rattle.expression_grammar.proofs.Facts.{begins_on, begins_with, joining_tells, operator_here, not_here, open_here, close_here, number_here, variable_here}

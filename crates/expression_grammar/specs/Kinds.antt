@@ -1,5 +1,5 @@
 -- What a token is to an expression. Assumes nothing.
-use Rattle.std.specs.Prelude.{ℕ, ◌+◌, ◌-◌, ◌*◌, Bool, true, false, List, [], ◌∷◌, Some, None, fold, Option, nat_lt}
+use Rattle.std.specs.Prelude.{ℕ, ◌+◌, ◌-◌, ◌*◌, Bool, true, false, List, Some, None, fold, Option, nat_lt}
 use Rattle.lock_text.specs.Spelling.{Lexeme, name, number, word, mark}
 use Rattle.lock_text.specs.declared.token.Word.{Word}
 use Rattle.lock_text.specs.declared.token.Word.TheVariants as Words

@@ -5,7 +5,7 @@ use Rattle.token_stream.specs.Streams.{Stream, token, fault, end}
 use Rattle.expression.specs.Tree.{Tree, items, operands, max_operands, max_items}
 use Rattle.expression.specs.declared.Operator.{Operator}
 use Rattle.expression_grammar.specs.Kinds.{Scope, sign}
-use Rattle.expression_grammar.specs.Reading.{State, Outcome, refused, read, expression, levels}
+use Rattle.expression_grammar.specs.Reading.{State, refused, read, expression, levels}
 use Rattle.expression_grammar.specs.Grammar.{Expression, rules}
 
 -- The stream x begins with the tokens ls, and y is what follows them.

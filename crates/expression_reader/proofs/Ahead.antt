@@ -1,5 +1,5 @@
 -- The stream ahead, by the next token. Assumes nothing.
-use Rattle.std.proofs.Common.{◌≡◌, ℕ, ◌+◌, ◌-◌, ◌<◌, ◌≤◌, List, length, Err, sym, refl, ap, ◌∙◌, arith}
+use Rattle.std.proofs.Common.{◌≡◌, ℕ, ◌+◌, ◌≤◌, List, length, Err, sym, refl, ap, ◌∙◌, arith}
 use Rattle.lock_text.specs.Spelling.{Lexeme}
 use Rattle.lock_text.specs.Tokens.{NextToken, NoToken, Misspelt, max_text}
 use Rattle.lock_text.specs.Lexing.{Lexes}

@@ -1,16 +1,16 @@
 -- An expression from any place of a text. Assumes nothing.
-use Rattle.std.proofs.Common.{◌≡◌, ℕ, ◌+◌, ◌<◌, ◌≤◌, List, ◌++◌, length, get_or, take, Ok, Err, Result, sym, refl, ap, ◌∙◌, subst, arith}
-use Rattle.lock_text.specs.Refusals.{refusal_number, refusal_index}
+use Rattle.std.proofs.Common.{◌≡◌, ℕ, ◌<◌, ◌≤◌, List, ◌++◌, length, get_or, take, Ok, Err, Result, sym, refl, ap, ◌∙◌, arith}
+use Rattle.lock_text.specs.Refusals.{refusal_number}
 use Rattle.lock_text.specs.declared.refusal.TextRefusal.{TextRefusal}
 use Rattle.lock_text.specs.declared.refusal.TextRefusal.TheVariants.{Unwanted}
 use Rattle.token_stream.specs.Streams.{Stream, token, fault, end, Streams}
-use Rattle.expression.specs.Tree.{Tree, items, max_levels}
+use Rattle.expression.specs.Tree.{items, max_levels}
 use Rattle.expression_grammar.specs.Kinds.{Scope}
-use Rattle.expression_grammar.specs.Reading.{State, Outcome, refused, read, more, chain, atom, factor, expression, levels}
+use Rattle.expression_grammar.specs.Reading.{refused, read, more, chain, atom, factor, expression, levels}
 use Rattle.expression_grammar.proofs.Sound.{sound_reading}
 use Rattle.expression_grammar.proofs.Local.{first_fault}
 use Rattle.expression_reader.specs.Ahead.{ahead}
-use Rattle.expression_reader.specs.State.{held, state, Took, Refused, Reads}
+use Rattle.expression_reader.specs.State.{state, Took, Refused, Reads}
 use Rattle.expression_reader.specs.Expressions.{begun, TookExpression, RefusedExpression, CameTo}
 use Rattle.expression_reader.specs.declared.reader.Reader.{Reader}
 use Rattle.expression_reader.proofs.Ahead.{streams_ahead, ahead_is}

@@ -1,22 +1,20 @@
 -- What the steps of the code come to in the reading. Assumes nothing.
-use Rattle.std.proofs.Common.{◌≡◌, ℕ, zero, suc, ◌+◌, ◌-◌, ◌<◌, ◌≤◌, ltb, List, [], ◌∷◌, ◌++◌, length, get_or, take, IsErrAnd, Some, None, Ok, Err, Option, Result, sym, refl, ap, ◌∙◌, subst, append_assoc, arith, le-ltb, lt-ltb}
+use Rattle.std.proofs.Common.{◌≡◌, ℕ, zero, suc, ◌+◌, ◌-◌, ◌<◌, ◌≤◌, List, [], ◌∷◌, ◌++◌, length, get_or, take, IsErrAnd, Some, None, Ok, Err, Result, sym, refl, ap, ◌∙◌, subst, append_assoc, arith, le-ltb, lt-ltb}
 use Rattle.std.proofs.lemmas.Result.{err_from_is_err_and}
-use Rattle.lock_text.specs.Spelling.{Lexeme}
 use Rattle.lock_text.specs.Refusals.{refusal_number, refusal_index}
 use Rattle.lock_text.specs.declared.refusal.TextRefusal.{TextRefusal}
 use Rattle.lock_text.specs.declared.refusal.TextRefusal.TheVariants.{PastLimit, OutOfRange, Unknown as UnknownName}
-use Rattle.token_stream.specs.Streams.{Stream, token, fault, end}
-use Rattle.expression.specs.Tree.{Tree, number, variable, denial, joined, items, operands, max_operands, max_items}
+use Rattle.expression.specs.Tree.{Tree, number, variable, denial, joined, items, max_operands, max_items}
 use Rattle.expression.specs.declared.Operator.{Operator}
 use Rattle.expression.specs.declared.Item.{Item}
 use Rattle.expression.specs.declared.Item.TheVariants as Items
 use Rattle.expression_grammar.specs.Kinds.{Scope, seen, place, behind, size}
-use Rattle.expression_grammar.specs.Reading.{State, Outcome, refused, read, then, past, counted, count_if, count, joining, on_operator, unwanted, operand_if, operand, Levels, more, chain, atom_at, atom, sum, tested, test, factor_at, factor, term, expression, closed_at, closed, levels}
+use Rattle.expression_grammar.specs.Reading.{State, Outcome, refused, read, then, past, count_if, count, joining, on_operator, unwanted, operand_if, operand, Levels, more, chain, atom_at, atom, sum, tested, test, factor_at, factor, expression, closed_at, closed, levels}
 use Rattle.expression_grammar.specs.declared.kind.Kind.{Kind}
 use Rattle.expression_grammar.specs.declared.kind.Kind.TheVariants.{Number, Large, Variable, Unknown, Operator as Joins, Not, Open, Close, Other, Misspelt}
-use Rattle.expression_grammar.proofs.Facts.{OfToken, Says, stands, joining_tells, operator_here}
+use Rattle.expression_grammar.proofs.Facts.{OfToken, stands, joining_tells}
 use Rattle.expression_reader.specs.Ahead.{ahead, Looked, TokenAhead}
-use Rattle.expression_reader.specs.State.{held, state, Took, Refused, Reads, UnwantedAt, Passed, Counted, Counts, Pushed, lone, OperandRead, Closes}
+use Rattle.expression_reader.specs.State.{held, state, Took, Refused, Reads, UnwantedAt, Passed, Counted, Pushed, lone, OperandRead, Closes}
 use Rattle.expression_reader.specs.declared.look.Seen.{Seen}
 use Rattle.expression_reader.specs.declared.reader.Reader.{Reader}
 

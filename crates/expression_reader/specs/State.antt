@@ -4,7 +4,7 @@ use Rattle.lock_text.specs.Refusals.{refusal_number, refusal_index}
 use Rattle.lock_text.specs.declared.refusal.TextRefusal.{TextRefusal}
 use Rattle.lock_text.specs.declared.refusal.TextRefusal.TheVariants.{PastLimit}
 use Rattle.token_stream.specs.Streams.{Stream}
-use Rattle.expression.specs.Tree.{Tree, number, variable, items, max_operands, max_items}
+use Rattle.expression.specs.Tree.{Tree, number, variable, items, max_items}
 use Rattle.expression.specs.declared.Item.{Item}
 use Rattle.expression.specs.declared.Item.TheVariants as Items
 use Rattle.expression_grammar.specs.Kinds.{Scope, seen, place, size}

@@ -1,7 +1,7 @@
 -- What the parts of a lock text promise of the program. Assumes nothing.
 use Rattle.std.proofs.Common.{◌≡◌, ℕ, zero, suc, ◌+◌, ◌<◌, ◌≤◌, Bool, true, false, cond, eqb, List, [], ◌∷◌, ◌++◌, length, Some, None, Option, sym, refl, subst, arith, eqb-true}
 use borrow.Author.Tests.{eqb-false}
-use Rattle.std.specs.List.{AllByRecursion as All}
+use Rattle.std.specs.List.{AllByRecursion}
 use Rattle.std.specs.Str.{bytes_eq}
 use Rattle.std.proofs.ByRecursion.{All-push}
 use Rattle.lock_text.specs.Spelling.{Lexeme}
@@ -69,14 +69,14 @@ formula_good {variables} {e} {ts} (G.formula d few) =
 
 -- assignments: each to another variable
 
-once_push : (all : List Assignment) (a : Assignment) → AssignedOnce all → All (Spares a.target) all → AssignedOnce (all ++ (a ∷ []))
+once_push : (all : List Assignment) (a : Assignment) → AssignedOnce all → AllByRecursion (Spares a.target) all → AssignedOnce (all ++ (a ∷ []))
 once_push [] a o s = (tt, tt)
 once_push (b ∷ rest) a (p, o) (q, s) = (All-push (Spares b.target) rest a p (λ e. q (sym e)), once_push rest a o s)
 
 abbrev pub SoundList : ℕ → List Assignment → Type 0
-SoundList n all = All (GoodAssignment n) all × AssignedOnce all
+SoundList n all = AllByRecursion (GoodAssignment n) all × AssignedOnce all
 
-pub list_push : (n : ℕ) (before : List Assignment) (a : Assignment) → SoundList n before → GoodAssignment n a → All (Spares a.target) before → SoundList n (before ++ (a ∷ []))
+pub list_push : (n : ℕ) (before : List Assignment) (a : Assignment) → SoundList n before → GoodAssignment n a → AllByRecursion (Spares a.target) before → SoundList n (before ++ (a ∷ []))
 list_push n before a (p, o) g s = (All-push (GoodAssignment n) before a p g, once_push before a o s)
 
 pub assigned_good : {variables : List Name} {before all : List Assignment} {ls : List Lexeme} → Assigned variables before all ls → SoundList (length variables) before → SoundList (length variables) all
@@ -99,17 +99,17 @@ without : ℕ → List Assignment → List Assignment
 without v [] = []
 without v (a ∷ rest) = kept_if (eqb a.target v) a (without v rest)
 
-kept_all : (P : Assignment → Type 0) (b : Bool) (a : Assignment) (rest : List Assignment) → (b ≡ false → P a) → All P rest → All P (kept_if b a rest)
+kept_all : (P : Assignment → Type 0) (b : Bool) (a : Assignment) (rest : List Assignment) → (b ≡ false → P a) → AllByRecursion P rest → AllByRecursion P (kept_if b a rest)
 unfolding kept_if
 kept_all P true a rest p q = q
 kept_all P false a rest p q = (p refl, q)
 
-without_all : (P Q : Assignment → Type 0) (v : ℕ) → ((a : Assignment) → P a → Spares v a → Q a) → (all : List Assignment) → All P all → All Q (without v all)
+without_all : (P Q : Assignment → Type 0) (v : ℕ) → ((a : Assignment) → P a → Spares v a → Q a) → (all : List Assignment) → AllByRecursion P all → AllByRecursion Q (without v all)
 unfolding without
 without_all P Q v to [] h = tt
 without_all P Q v to (a ∷ rest) (p, h) = kept_all Q _ a _ (λ e. to a p (eqb-false _ _ e)) (without_all P Q v to rest h)
 
-kept_once : (b : Bool) (a : Assignment) (rest : List Assignment) → All (Spares a.target) rest → AssignedOnce rest → AssignedOnce (kept_if b a rest)
+kept_once : (b : Bool) (a : Assignment) (rest : List Assignment) → AllByRecursion (Spares a.target) rest → AssignedOnce rest → AssignedOnce (kept_if b a rest)
 unfolding kept_if
 kept_once true a rest p o = o
 kept_once false a rest p o = (p, o)
@@ -133,16 +133,16 @@ spares_false : (v : ℕ) (a : Assignment) (b : Bool) → eqb a.target v ≡ b �
 spares_false v a true e s = absurd (s (eqb-true _ _ e))
 spares_false v a false e s = refl
 
-without_none : (v : ℕ) (all : List Assignment) → All (Spares v) all → length (without v all) ≡ length all
+without_none : (v : ℕ) (all : List Assignment) → AllByRecursion (Spares v) all → length (without v all) ≡ length all
 unfolding without
 without_none v [] h = refl
 without_none v (a ∷ rest) (p, h) = let q = kept_false _ a (without v rest) (spares_false v a _ refl p) in omega (arith, without_none v rest h)
 
-lost_one : (v : ℕ) (a : Assignment) (rest : List Assignment) (b : Bool) → eqb a.target v ≡ b → All (Spares a.target) rest → length rest ≤ length (without v rest) + 1 → length rest + 1 ≤ length (kept_if b a (without v rest)) + 1
+lost_one : (v : ℕ) (a : Assignment) (rest : List Assignment) (b : Bool) → eqb a.target v ≡ b → AllByRecursion (Spares a.target) rest → length rest ≤ length (without v rest) + 1 → length rest + 1 ≤ length (kept_if b a (without v rest)) + 1
 unfolding kept_if
 lost_one v a rest true e s l =
     let q = eqb-true _ _ e in
-    let r = without_none v rest (subst (λ (i : ℕ). All (Spares i) rest) q s) in
+    let r = without_none v rest (subst (λ (i : ℕ). AllByRecursion (Spares i) rest) q s) in
     omega arith
 lost_one v a rest false e s l = omega arith
 
@@ -154,7 +154,7 @@ without_one v (a ∷ rest) (s, o) = let q = lost_one v a rest _ refl s (without_
 abbrev Below : ℕ → Assignment → Type 0
 Below n a = a.target < n
 
-pub no_more_than_variables : (n : ℕ) (all : List Assignment) → All (Below n) all → AssignedOnce all → length all ≤ n
+pub no_more_than_variables : (n : ℕ) (all : List Assignment) → AllByRecursion (Below n) all → AssignedOnce all → length all ≤ n
 no_more_than_variables zero [] h o = omega arith
 no_more_than_variables zero (a ∷ rest) (p, h) o = absurd (omega arith)
 no_more_than_variables (suc n) all h o =
@@ -164,7 +164,7 @@ no_more_than_variables (suc n) all h o =
     below_other : (a : Assignment) → a.target < suc n → ¬ (a.target ≡ n) → a.target < n
     below_other a p s = omega arith
 
-pub all_below : (n : ℕ) (all : List Assignment) → All (GoodAssignment n) all → All (Below n) all
+pub all_below : (n : ℕ) (all : List Assignment) → AllByRecursion (GoodAssignment n) all → AllByRecursion (Below n) all
 all_below n [] h = tt
 all_below n (a ∷ rest) (p, h) = (p.0, all_below n rest h)
 

@@ -1,6 +1,6 @@
 -- Parts one after another, and what they promise of the program. Assumes nothing.
 use Rattle.std.proofs.Common.{◌≡◌, ℕ, zero, suc, ◌+◌, ◌<◌, ◌≤◌, List, [], ◌∷◌, ◌++◌, length, Option, sym, refl, ap, ◌∙◌, subst, append_assoc, append-nil, arith, length-append}
-use Rattle.std.specs.List.{AllByRecursion as All}
+use Rattle.std.specs.List.{AllByRecursion}
 use Rattle.std.proofs.ByRecursion.{All-push}
 use Rattle.lock_text.specs.Spelling.{Lexeme}
 use Rattle.step_rule.specs.Programs.{Command, GoodClass, GoodCommand, DigitsBelow, max_maximum}
@@ -70,7 +70,7 @@ digits_push (y ∷ ys) (x ∷ xs) m i (p, d) h = (p, digits_push ys xs m i d h)
 
 record GoodVariables (v : Variables) : Type 0 where
   even : length v.names ≡ length v.maxima
-  bytes : All (λ m. m ≤ max_maximum) v.maxima
+  bytes : AllByRecursion (λ m. m ≤ max_maximum) v.maxima
   below : DigitsBelow (value_radices v.maxima) v.initials
 
 variable_good : (a b : Variables) (ts : List Lexeme) → Variable a b ts → GoodVariables a → GoodVariables b
@@ -109,7 +109,7 @@ class_good : {classes : ℕ} {c : Option ℕ} {l : Lexeme} → Class classes c l
 class_good (G.a_class w p) = p
 class_good G.no_class = tt
 
-command_good : (p j : ℕ) (variables locations : List Name) (a b : List Command) (ts : List Lexeme) → OneCommand p j variables locations a b ts → All (GoodCommand p (length locations) j (length variables)) a → All (GoodCommand p (length locations) j (length variables)) b
+command_good : (p j : ℕ) (variables locations : List Name) (a b : List Command) (ts : List Lexeme) → OneCommand p j variables locations a b ts → AllByRecursion (GoodCommand p (length locations) j (length variables)) a → AllByRecursion (GoodCommand p (length locations) j (length variables)) b
 command_good p j variables locations a b ts (G.command pr f t c g h) good =
     let list = assignments_good h in
     All-push (GoodCommand p (length locations) j (length variables)) a _ good (record {
@@ -129,14 +129,14 @@ commands_counted {p} {j} {n} {variables} {locations} d = let q = repeated_adds (
     one_more a b ts (G.command pr f t c g h) = length_push a _
 
 pub well_formed : WellFormedPrograms
-well_formed p ls (G.lock_text_lem {p = processes} {j = j} {variables = variables} {locations = locations} {commands = commands} a b vs c lines d e cs few states) =
+well_formed p ls (G.lock_text {p = processes} {j = j} {variables = variables} {locations = locations} {commands = commands} a b vs c lines d e cs few states) =
     let v = variables_good vs in
     let n = variables_even vs in
     let l = locations_even lines in
     let named = locations_named lines in
     let k = commands_counted cs in
     let same_length : length locations.names ≡ length locations.regions = named ∙ sym l in
-    let good : All (GoodCommand processes (length locations.names) j (length variables.names)) commands = repeated_keeps (All (GoodCommand processes (length locations.names) j (length variables.names))) (command_good processes j variables.names locations.names) cs tt in
+    let good : AllByRecursion (GoodCommand processes (length locations.names) j (length variables.names)) commands = repeated_keeps (AllByRecursion (GoodCommand processes (length locations.names) j (length variables.names))) (command_good processes j variables.names locations.names) cs tt in
     record {
       some_process = numeral_low a;
       few_processes = omega (arith, numeral_high a);
@@ -147,7 +147,7 @@ well_formed p ls (G.lock_text_lem {p = processes} {j = j} {variables = variables
       few_locations = omega (arith, numeral_high c);
       few_classes = omega (arith, numeral_high d);
       few_commands = omega (arith, numeral_high e);
-      commands_good = subst (λ (m : ℕ). All (GoodCommand processes m j (length variables.maxima)) commands) same_length (subst (λ (m : ℕ). All (GoodCommand processes (length locations.names) j m) commands) v.even good);
+      commands_good = subst (λ (m : ℕ). AllByRecursion (GoodCommand processes m j (length variables.maxima)) commands) same_length (subst (λ (m : ℕ). AllByRecursion (GoodCommand processes (length locations.names) j m) commands) v.even good);
       few_states = states;
     }
 

@@ -12,7 +12,7 @@ use Rattle.expression_grammar.proofs.Sound.{sound_reading}
 use Rattle.expression_grammar.proofs.Complete.{complete_reading}
 use Rattle.step_rule.specs.Programs.{max_maximum}
 use Rattle.lock_grammar.specs.Names.{Name, index_of, Variables, with_variable, Locations, with_location}
-use Rattle.lock_grammar.specs.Combinators.{Position, refused, read, Reader, done, next}
+use Rattle.lock_grammar.specs.Combinators.{Position, read, Reader, done, next}
 use Rattle.lock_grammar.specs.Reading.{variable, location, from_outcome, fresh, formula}
 use Rattle.lock_grammar.specs.Grammar as G
 use Rattle.lock_grammar.specs.Grammar.{Numeral, NewName, Variable, Location, Formula}

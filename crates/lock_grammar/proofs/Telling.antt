@@ -1,7 +1,7 @@
 -- Each test of a token takes exactly the tokens that the grammar has at that place. Assumes nothing.
 use Rattle.std.proofs.Common.{◌≡◌, ℕ, Bool, true, false, not, ◌&&◌, eqb, List, [], ◌∷◌, get_or, Some, None, Option, sym, refl, ap, ◌∙◌, subst, arith, ltb-true, lt-ltb, eq-eqb, ne_eqb, eqb-true, le-leb, leb-true}
 use borrow.Author.Tests.{eqb-false, not-true}
-use Rattle.std.specs.List.{AllByRecursion as All}
+use Rattle.std.specs.List.{AllByRecursion}
 use Rattle.system.specs.declared.Region.{Region}
 use Rattle.lock_text.specs.Spelling.{Lexeme, name, number, word, mark}
 use Rattle.lock_text.specs.declared.token.Word.{Word}
@@ -252,13 +252,13 @@ tells_class classes = record { told = class_told classes; tells = class_tells cl
 
 -- targets
 
-pub spared_told : (v : ℕ) (before : List Assignment) → spared v before ≡ true → All (Spares v) before
+pub spared_told : (v : ℕ) (before : List Assignment) → spared v before ≡ true → AllByRecursion (Spares v) before
 spared_told v [] h = tt
 spared_told v (a ∷ rest) h =
     let p = and_split (not (eqb a.target v)) _ h in
     (eqb-false _ _ (not-true _ p.0), spared_told v rest p.1)
 
-pub spared_tells : (v : ℕ) (before : List Assignment) → All (Spares v) before → spared v before ≡ true
+pub spared_tells : (v : ℕ) (before : List Assignment) → AllByRecursion (Spares v) before → spared v before ≡ true
 spared_tells v [] h = refl
 spared_tells v (a ∷ rest) (p, q) = and_join (not (eqb a.target v)) _ (ap not (ne_eqb _ _ p)) (spared_tells v rest q)
 

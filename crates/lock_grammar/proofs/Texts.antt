@@ -9,7 +9,7 @@ use Rattle.step_rule.specs.Programs.{Program, product, max_processes, max_variab
 use Rattle.step_rule.specs.Codes.{value_radices}
 use Rattle.lock_grammar.specs.Names.{Variables, no_variables, Locations, no_locations, program, item_count}
 use Rattle.lock_grammar.specs.Combinators.{Position, Result, refused, read, then, next, ended, at_end}
-use Rattle.lock_grammar.specs.Reading.{variable, location, few_states, locations, commands, located, lock_text_lem, text_read}
+use Rattle.lock_grammar.specs.Reading.{variable, location, few_states, locations, commands, located, lock_text, text_read}
 use Rattle.lock_grammar.specs.Grammar as G
 use Rattle.lock_grammar.specs.Grammar.{Repeated, Numeral, Variable, Location, OneCommand, LockText}
 use Rattle.lock_grammar.specs.Laws.{SoundTexts, CompleteTexts, OneProgram, FirstFaultOfTexts}
@@ -48,7 +48,7 @@ abbrev TextParts : Relation Program
 TextParts =
     Seq (One (IsWord Words.Procs)) (λ _. Seq (One (Numeral 1 (max_processes + 1))) (λ p. Seq (One (IsWord Words.Vars)) (λ _. Seq (One (Numeral 0 (max_variables + 1))) (λ v. Seq (Leads free (Repeated Variable v) no_variables) (LocatedParts p)))))
 
-reads_text : Reads lock_text_lem TextParts
+reads_text : Reads lock_text TextParts
 reads_text =
     seq (reads_one _ _ (tells_word Words.Procs)) (λ _. seq (reads_one _ _ (tells_number 1 (max_processes + 1))) (λ p. seq (reads_one _ _ (tells_word Words.Vars)) (λ _. seq (reads_one _ _ (tells_number 0 (max_variables + 1))) (λ v. seq (reads_times free Variable (λ a b ts h. omega arith) variable reads_variable v no_variables) (reads_located p)))))
 
@@ -75,10 +75,10 @@ text_to q n ls (both (is_token is_word) (both {a = p} (is_token a) (both (is_tok
     let s = locations_to p variables l (numeral_low c) lines m ts d in
     let r : replicate p l ≡ replicate p (length lines.regions) = ap (λ k. replicate p k) (sym (locations_even s.0)) in
     let states : product (value_radices variables.maxima ++ replicate p (length lines.regions)) ≤ max_states = subst (λ (w : List ℕ). product (value_radices variables.maxima ++ w) ≤ max_states) r s.1 in
-    G.lock_text_lem a b vs c s.0 e f g (omega (arith, h, s.2)) states
+    G.lock_text a b vs c s.0 e f g (omega (arith, h, s.2)) states
 
 text_back : (q : Program) (ls : List Lexeme) → LockText q ls → (n : ℕ) × (n ≤ max_items) × TextParts q n ls
-text_back q ls (G.lock_text_lem {p = p} {l = l} {j = j} {variables = variables} {locations = lines} {commands = cs} {ls = ts} a b vs c d e f g few states) =
+text_back q ls (G.lock_text {p = p} {l = l} {j = j} {variables = variables} {locations = lines} {commands = cs} {ls = ts} a b vs c d e f g few states) =
     let r : replicate p (length lines.regions) ≡ replicate p l = ap (λ k. replicate p k) (locations_even d) in
     let s = locations_back p variables l (numeral_low c) lines ts d (subst (λ (w : List ℕ). product (value_radices variables.maxima ++ w) ≤ max_states) r states) in
     let z : item_count cs ≡ 0 + item_count cs = omega arith in (
@@ -131,7 +131,7 @@ start x = record { rest = x; items = 0 }
 pub sound_texts : SoundTexts
 unfolding next
 sound_texts x p (s, h) =
-    let c = then_read (lock_text_lem (start x)) at_end p s h in
+    let c = then_read (lock_text (start x)) at_end p s h in
     let g = reads_text.sound (start x) c.0 c.1 c.2 in
     let e = end_read c.0 c.1 p s c.3 in
     let few : g.count ≤ max_items = omega (arith, g.used, g.room (omega arith)) in
@@ -169,7 +169,7 @@ not_both o m r p s h i = let z : ◌≡◌ {A = ℕ} 0 1 = cc in omega arith
 
 pub first_fault : FirstFaultOfTexts
 first_fault x m r h =
-    let l = subst (λ (o : Result Program). LocalTo (next lock_text_lem at_end) (start x) o) h (next_local lock_text_lem at_end reads_text.local end_local (start x)) in (
+    let l = subst (λ (o : Result Program). LocalTo (next lock_text at_end) (start x) o) h (next_local lock_text at_end reads_text.local end_local (start x)) in (
       l.before,
       l.split,
       λ y q b f.

@@ -1,6 +1,6 @@
 -- The grammar of lock texts: which tokens are which program. Assumes nothing.
 use Rattle.std.specs.Prelude.{◌≡◌, ℕ, suc, ◌+◌, ◌<◌, ◌≤◌, List, [], ◌∷◌, ◌++◌, Some, None, Option}
-use Rattle.std.specs.List.{AllByRecursion as All}
+use Rattle.std.specs.List.{AllByRecursion}
 use Rattle.system.specs.declared.Region.{Region}
 use Rattle.system.specs.declared.Region.TheVariants as Regions
 use Rattle.lock_text.specs.Spelling.{Lexeme, name, number, word, mark}
@@ -65,7 +65,7 @@ pub data Formula (variables : List Name) : Tree → List Lexeme → Type 0 where
 
 -- A variable not assigned before.
 pub data Target (variables : List Name) (before : List Assignment) : ℕ → Lexeme → Type 0 where
-  target : {v : ℕ} {l : Lexeme} → KnownName variables v l → All (Spares v) before → Target variables before v l
+  target : {v : ℕ} {l : Lexeme} → KnownName variables v l → AllByRecursion (Spares v) before → Target variables before v l
 
 -- Assignments `name = expression`, split by commas, and the `;` after them: those before, and with these.
 pub data Assigned (variables : List Name) : List Assignment → List Assignment → List Lexeme → Type 0 where
@@ -96,7 +96,7 @@ pub data OneCommand (processes classes : ℕ) (variables locations : List Name) 
 -- A whole text: `procs` P, `vars` V and the variables, `locs` L and the locations, `classes` J, `cmds` K and the
 -- commands, within the limits on items and states.
 pub data LockText : Program → List Lexeme → Type 0 where
-  lock_text_lem :
+  lock_text :
       {p v l j k : ℕ} {variables : Variables} {locations : Locations} {commands : List Command} {a b c d e : Lexeme} {vs ls cs : List Lexeme} →
       Numeral 1 (max_processes + 1) p a →
       Numeral 0 (max_variables + 1) v b → Repeated Variable v no_variables variables vs →

@@ -89,9 +89,9 @@ declarations processes =
     next (one (this_word Words.Vars)) (λ _. next (one (number_within 0 (max_variables + 1))) (λ v. next (times v variable no_variables) (located processes)))
 
 -- A whole text but for its end.
-abbrev pub lock_text_lem : Reader Program
-lock_text_lem = next (one (this_word Words.Procs)) (λ _. next (one (number_within 1 (max_processes + 1))) declarations)
+abbrev pub lock_text : Reader Program
+lock_text = next (one (this_word Words.Procs)) (λ _. next (one (number_within 1 (max_processes + 1))) declarations)
 
 -- A whole text.
 abbrev pub text_read : Stream → Result Program
-text_read x = next lock_text_lem at_end (record { rest = x; items = 0 })
+text_read x = next lock_text at_end (record { rest = x; items = 0 })

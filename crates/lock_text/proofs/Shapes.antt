@@ -1,8 +1,8 @@
 -- What looks like a token, by its first byte; where the longest one ends. Assumes nothing.
-use Rattle.std.proofs.Common.{◌≡◌, ℕ, zero, suc, ◌+◌, ◌-◌, ◌<◌, ◌≤◌, Bool, true, false, ◌&&◌, eqb, leb, ◌⊎◌, List, [], ◌∷◌, length, get_or, take, drop, sym, refl, ap, ◌∙◌, subst, inl, inr, add-zero, arith, lit≤, rules}
+use Rattle.std.proofs.Common.{◌≡◌, ℕ, zero, suc, ◌+◌, ◌-◌, ◌<◌, ◌≤◌, Bool, true, false, ◌&&◌, ◌⊎◌, List, [], ◌∷◌, length, get_or, drop, sym, refl, ap, ◌∙◌, subst, inl, inr, add-zero, arith, lit≤, rules}
 use Rattle.std.proofs.lemmas.List.{get_or-take, get_or-drop, length-take, length-drop}
 use Rattle.std.proofs.lemmas.Bool.{and_parts, both_ways, cases_order, cases_lt, or_left}
-use Rattle.lock_text.specs.Characters.{is_letter, is_digit, is_name_byte, is_blank}
+use Rattle.lock_text.specs.Characters.{is_letter, is_digit, is_name_byte}
 use Rattle.lock_text.specs.Spelling.{Lexeme, name, number, word, mark, word_spelling, mark_spelling, spelling, Each, NameShape, NumberShape, MarkShape, Shape, Reserved, WellFormed, max_name, max_digits}
 use Rattle.lock_text.specs.Tokens.{part, TokenAt}
 use Rattle.lock_text.specs.Lexing.{RunTo}

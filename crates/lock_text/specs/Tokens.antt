@@ -1,5 +1,5 @@
 -- The tokens of a lock text. Assumes nothing.
-use Rattle.std.specs.Prelude.{◌≡◌, ℕ, ◌-◌, ◌<◌, ◌≤◌, true, false, List, [], ◌∷◌, length, slice_index, slice_range}
+use Rattle.std.specs.Prelude.{◌≡◌, ℕ, ◌<◌, ◌≤◌, true, false, List, [], ◌∷◌, length, slice_index, slice_range}
 use Rattle.lock_text.specs.Characters.{is_blank}
 use Rattle.lock_text.specs.Spelling.{Lexeme, name, number, word, mark, spelling, Shape, WellFormed}
 use Rattle.lock_text.specs.declared.token.Token.{Token}

@@ -111,6 +111,7 @@ fn name_at<'a>(text: &'a [u8], start: usize) -> Option<Placed<'a>>
 }
 
 /// The number that begins with the digit at `start`.
+#[tactic(auto, using(crate::proofs::Shapes::number_ends, crate::proofs::Shapes::number_token, crate::proofs::Shapes::long_number, crate::proofs::Shapes::ends_none))]
 fn number_at<'a>(text: &'a [u8], start: usize) -> Option<Placed<'a>>
     requires inside { start < length text.now }
     requires digit { is_digit (slice_index text.now start) ≡ true }

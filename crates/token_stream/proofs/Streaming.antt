@@ -1,12 +1,12 @@
 -- Each text is one stream of tokens, and the computed one is it. Assumes nothing.
-use Rattle.std.proofs.Common.{◌≡◌, ℕ, zero, suc, ◌+◌, ◌-◌, ◌<◌, ◌≤◌, Bool, true, false, cond, eqb, leb, ◌⊎◌, List, [], ◌∷◌, length, get_or, take, drop, Some, None, Option, sym, refl, ap, ◌∙◌, subst, inl, inr, add-zero, arith}
+use Rattle.std.proofs.Common.{◌≡◌, ℕ, zero, suc, ◌+◌, ◌-◌, ◌<◌, ◌≤◌, Bool, true, false, cond, eqb, leb, ◌⊎◌, List, [], ◌∷◌, length, get_or, take, drop, Some, None, Option, sym, refl, ap, ◌∙◌, subst, inl, inr, arith}
 use Rattle.std.specs.Str.{bytes_eq}
 use Rattle.std.proofs.lemmas.Slice.Eq.{bytes_eq-Decides}
 use Rattle.std.proofs.lemmas.List.{get_or-drop, length-drop, drop-drop, drop_all, drop_more}
 use Rattle.std.proofs.lemmas.Bool.{leb-true, leb-false, eqb-true, cases_Bool, cases_lt, cond_both}
 use Rattle.lock_text.specs.Characters.{is_blank, is_letter, is_digit, is_name_byte}
-use Rattle.lock_text.specs.Spelling.{Lexeme, name, number, word, mark, word_spelling, mark_spelling, Reserved, max_name, max_digits}
-use Rattle.lock_text.specs.Tokens.{part, Blanks, TokenAt, NextToken, NoToken, Misspelt}
+use Rattle.lock_text.specs.Spelling.{Lexeme, name, number, word_spelling, mark_spelling, max_name, max_digits}
+use Rattle.lock_text.specs.Tokens.{part, Blanks, TokenAt, NextToken}
 use Rattle.lock_text.specs.Lexing.{RunTo, longest_mark, BeginsMark}
 use Rattle.lock_text.specs.declared.token.Word.{Word}
 use Rattle.lock_text.specs.declared.token.Word.TheVariants.{Procs, Vars, Locs, Classes, Cmds, Idle, Try, Crit, Exit, And, Or, Not}
@@ -17,7 +17,7 @@ use Rattle.lock_text.proofs.Shapes.{Ends, name_ends, number_ends, name_token, wo
 use Rattle.lock_text.proofs.Marks.{no_mark, mark_token}
 use Rattle.lock_text.proofs.One.{one_next, next_not_none, next_not_fault, none_not_fault, same_place, fault_no_blank, token_no_blank}
 use Rattle.token_stream.specs.Streams.{Stream, token, fault, end, Streams, StreamsAreOne}
-use Rattle.token_stream.specs.Computed.{all_words, named_among, word_named, run_length, name_or_word, name_front, number_front, mark_front, front, stream_after, stream_at, stream_from, stream_of, StreamOfText}
+use Rattle.token_stream.specs.Computed.{all_words, named_among, word_named, run_length, name_or_word, name_front, number_front, mark_front, front, stream_after, stream_at, stream_from, StreamOfText}
 
 -- at most one
 

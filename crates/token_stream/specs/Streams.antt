@@ -1,5 +1,5 @@
 -- A lock text as its tokens one after another, up to its end or its first fault of spelling. Assumes nothing.
-use Rattle.std.specs.Prelude.{◌≡◌, ℕ, ◌≤◌, List, length}
+use Rattle.std.specs.Prelude.{◌≡◌, ℕ, List, length}
 use Rattle.lock_text.specs.Spelling.{Lexeme}
 use Rattle.lock_text.specs.Tokens.{NextToken, NoToken, Misspelt}
 

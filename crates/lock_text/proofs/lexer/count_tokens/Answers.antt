@@ -1,4 +1,4 @@
-use Rattle.std.proofs.Common.{◌≡◌, ◌+◌, ◌<◌, ◌≤◌, [], ◌∷◌, ◌++◌, length, Ok, Option, ◌∙◌, subst, arith}
+use Rattle.std.proofs.Common.{◌≡◌, ◌<◌, ◌≤◌, [], ◌∷◌, ◌++◌, length, Ok, Option, subst, arith}
 use Rattle.std.proofs.lemmas.List.{length_push}
 use Rattle.lock_text.specs.Tokens.{NextToken, content}
 use Rattle.lock_text.specs.Lexing.{Lexes}
@@ -11,7 +11,7 @@ loop-token-preserved c =
     let t = c.args.text.now in
     let p = c.in-Some.token in
     let Answered : Option Placed → Type 0 = λ o. Lexes t c.loop-token.at (Ok o) in
-    let next : NextToken t c.loop-token.at (content p.token) p.start p.end = (subst Answered c.in-Some.is c.in-ok-token.ensures).1 in
+    let next : NextToken t c.loop-token.at (content p.token) p.start p.end = (subst Answered c.in-Some.is c.in_ok-token.ensures).1 in
     let before = c.loop-token.invariant.2 in
     let ls = before.0 in
     let l = content p.token in

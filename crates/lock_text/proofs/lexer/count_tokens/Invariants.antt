@@ -1,4 +1,4 @@
-use Rattle.std.proofs.Common.{◌≡◌, ℕ, ◌-◌, ◌≤◌, List, length}
+use Rattle.std.proofs.Common.{◌≡◌, ◌-◌, ◌≤◌, List, length}
 use Rattle.lock_text.specs.Spelling.{Lexeme}
 use Rattle.lock_text.specs.Tokens.{TokensTo}
 use Rattle.lock_text.proofs.lexer.count_tokens.Given as goal

@@ -1,19 +1,19 @@
-use Rattle.std.proofs.Common.{◌≡◌, sym, refl, subst, arith}
+use Rattle.std.proofs.Common.{sym, refl, subst, arith}
 use Rattle.lock_text.specs.Tokens.{TokenAt, content}
 use Rattle.lock_text.specs.declared.token.Token.{Token}
 use Rattle.lock_text.proofs.lexer.name_at.Goals as goal
 use Rattle.lock_text.proofs.lexer.name_at.Goals.{in-Some, in-None}
 use Rattle.lock_text.proofs.Shapes.{name_ends, name_token, word_token, ends_none, long_name}
 
-pub returns-then-end-start-gt-MAX-NAME : goal.returns-then-end-start-gt-MAX-NAME
-returns-then-end-start-gt-MAX-NAME c =
-    let k = name_ends c.args.text.now c.args.start c.run-end-end.result c.requires.inside c.requires.letter c.run-end-end.ensures in
+pub returns-then-end-start-gt-MAX_NAME : goal.returns-then-end-start-gt-MAX_NAME
+returns-then-end-start-gt-MAX_NAME c =
+    let k = name_ends c.args.text.now c.args.start c.run_end-end.result c.requires.inside c.requires.letter c.run_end-end.ensures in
     ends_none _ _ _ k (long_name _ _ _ k c.requires.letter (omega arith))
 
 pub returns : goal.returns
 returns c =
-    let k = name_ends c.args.text.now c.args.start c.run-end-end.result c.requires.inside c.requires.letter c.run-end-end.ensures in
-    let Here : Token → Type 0 = λ x. TokenAt c.args.text.now c.args.start (content x) c.run-end-end.result in (
+    let k = name_ends c.args.text.now c.args.start c.run_end-end.result c.requires.inside c.requires.letter c.run_end-end.ensures in
+    let Here : Token → Type 0 = λ x. TokenAt c.args.text.now c.args.start (content x) c.run_end-end.result in (
       refl,
       elim c.match-reserved.branch [
         | in-Some w ↦ subst Here (sym w.token-is) (word_token _ _ _ k w.in-Some.word w.in-Some.ensures)

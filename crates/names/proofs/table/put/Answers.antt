@@ -1,4 +1,4 @@
-use Rattle.std.proofs.Common.{◌≡◌, ℕ, ◌<◌, ◌≤◌, List, [], ◌∷◌, map, length, take, ap, ◌∙◌, arith}
+use Rattle.std.proofs.Common.{◌<◌, [], ◌∷◌, map, length, take, ap, ◌∙◌, arith}
 use Rattle.std.proofs.lemmas.List.{map-append, take_more_set}
 use Rattle.names.proofs.Listed.{listed_length}
 use Rattle.names.proofs.table.put.Goals as goal
