@@ -1,6 +1,6 @@
 -- A lock program in the words of its language, and when it is well formed. Assumes nothing.
 use Rattle.std.specs.Prelude.{◌≡◌, ℕ, ◌+◌, ◌*◌, ◌<◌, ◌≤◌, List, [], ◌∷◌, length, Some, None, Option}
-use Rattle.std.specs.List.{AllByRecursion as All}
+use Rattle.std.specs.List.{AllByRecursion}
 use Rattle.expression.specs.Tree.{Tree, Within, operands, max_operands}
 use Rattle.system.specs.declared.Region.{Region}
 
@@ -76,7 +76,7 @@ Spares v a = ¬ (a.target ≡ v)
 -- No variable is assigned twice.
 abbrev pub AssignedOnce : List Assignment → Type 0
 AssignedOnce [] = Unit {0}
-AssignedOnce (a ∷ rest) = All (Spares a.target) rest × AssignedOnce rest
+AssignedOnce (a ∷ rest) = AllByRecursion (Spares a.target) rest × AssignedOnce rest
 
 -- The class, where there is one, is among the first j.
 abbrev pub GoodClass : ℕ → Option ℕ → Type 0
@@ -90,7 +90,7 @@ pub record GoodCommand (processes locations classes n : ℕ) (c : Command) : Typ
   pub to_below : c.to < locations
   pub class_below : GoodClass classes c.class
   pub guard_good : GoodTree n c.guard
-  pub assignments_good : All (GoodAssignment n) c.assignments
+  pub assignments_good : AllByRecursion (GoodAssignment n) c.assignments
   pub assigned_once : AssignedOnce c.assignments
 
 abbrev pub product : List ℕ → ℕ
