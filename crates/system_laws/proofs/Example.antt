@@ -1,13 +1,13 @@
 -- A lock of one process that a mask spoils. Assumes nothing.
-use Rattle.std.proofs.Common.{◌≡◌, ℕ, zero, suc, ◌<◌, ◌≤◌, ◌⊎◌, Some, None, Option, sym, refl, ap, ◌∙◌, subst, inl, inr, arith}
+use Rattle.std.proofs.Common.{◌≡◌, ℕ, zero, suc, ◌<◌, ◌≤◌, ◌⊎◌, Some, None, Option, sym, refl, inl, inr, arith}
 use Rattle.system.specs.declared.Region.{Region}
-use Rattle.system.specs.declared.Region.TheVariants.{Idle, Try, Crit, Exit}
-use Rattle.system.specs.Transitions.{Transitions, LawfulTransitions, Clash}
-use Rattle.system.specs.Runs.{Step, command, rest, Leads, Run, ReachesClash, LeavesTrying}
+use Rattle.system.specs.declared.Region.TheVariants.{Idle, Try, Crit}
+use Rattle.system.specs.Transitions.{Transitions}
+use Rattle.system.specs.Runs.{Step, command, rest, Leads, Run}
 use Rattle.system.specs.Justice.{FairSystem, Lawful, ClassEnabled, ClassDisabled, OfClass, Just, CorrectLock}
-use Rattle.system.specs.Masks.{bit, unless, masked_steps, masked}
+use Rattle.system.specs.Masks.{bit, masked_steps, masked}
 use Rattle.system.specs.MaskLaws.{unless_some}
-use Rattle.system_laws.specs.Masking.{SameCourse, JustOnlyUnderMask, MaskSpoils}
+use Rattle.system_laws.specs.Masking.{JustOnlyUnderMask, MaskSpoils}
 use Rattle.system_laws.proofs.Holders.{clash_is_two_holders_lem}
 
 unequal : {A : Type 0} → ◌≡◌ {A = ℕ} 0 1 → A

@@ -1,10 +1,10 @@
 -- A mask with two ones is two holders. Assumes nothing.
-use Rattle.std.proofs.Common.{◌≡◌, ℕ, zero, suc, ◌+◌, ◌*◌, ◌^◌, ◌<◌, ◌≤◌, ◌⊎◌, sym, refl, ap, ◌∙◌, ap₂, inl, inr, arith}
+use Rattle.std.proofs.Common.{◌≡◌, ℕ, zero, suc, ◌+◌, ◌^◌, ◌<◌, ◌≤◌, ◌⊎◌, refl, ap, ◌∙◌, ap₂, inl, inr, arith}
 use native.Mathlib.Decide.{dec_lt}
 use lib.Count.{ones, ones_cat}
 use Rattle.system.specs.declared.Region.{Region}
 use Rattle.system.specs.declared.Region.TheVariants.{Idle, Try, Crit, Exit}
-use Rattle.system.specs.Transitions.{Transitions, holder_bit, holders_below, Holds, Clash, TwoHolders}
+use Rattle.system.specs.Transitions.{Transitions, holder_bit, holders_below, Holds}
 use Rattle.system_laws.specs.Holding.{ClashIsTwoHolders}
 
 -- A region is crit, with bit 1, or its bit is 0.

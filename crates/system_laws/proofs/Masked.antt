@@ -1,12 +1,12 @@
 -- Runs and justice under a mask. Assumes nothing.
 use Rattle.std.proofs.Common.{◌≡◌, ℕ, suc, Bool, true, false, ◌⊎◌, Some, None, Option, sym, refl, ap, ◌∙◌, subst, inl, inr, arith}
 use Rattle.std.proofs.lemmas.Bool.{cases_Bool}
-use Rattle.system.specs.Transitions.{Transitions, Clash}
-use Rattle.system.specs.Runs.{Step, command, rest, Leads, Run, ReachesClash}
-use Rattle.system.specs.Justice.{FairSystem, Lawful, ClassEnabled, ClassDisabled, OfClass, InfinitelyOften, Just}
+use Rattle.system.specs.Transitions.{Transitions}
+use Rattle.system.specs.Runs.{Step, command, rest, Leads, Run}
+use Rattle.system.specs.Justice.{FairSystem, ClassDisabled, OfClass, InfinitelyOften}
 use Rattle.system.specs.Masks.{bit, unless, masked_steps, masked}
 use Rattle.system.specs.MaskLaws.{unless_some}
-use Rattle.system_laws.specs.Masking.{SameCourse, TakesNone, MaskedRuns, MaskedRunsTakeNoMaskedCommand, MaskedClasses, JusticeCarriesUp, ClasslessMasksKeepJustice, MasksBringNoClash}
+use Rattle.system_laws.specs.Masking.{SameCourse, MaskedRunsTakeNoMaskedCommand, MaskedClasses, JusticeCarriesUp, ClasslessMasksKeepJustice, MasksBringNoClash}
 
 unless_false : {A : Type 0} (b : Bool) (o : Option A) → b ≡ false → unless b o ≡ o
 unless_false b o e = ap (λ z. unless z o) e

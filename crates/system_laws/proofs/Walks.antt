@@ -1,9 +1,9 @@
 -- A walk, then rest for ever, is a run; the beginning of a run is a walk. Assumes nothing.
-use Rattle.std.proofs.Common.{◌≡◌, ℕ, zero, suc, ◌<◌, ◌≤◌, List, [], ◌∷◌, ◌++◌, length, get_or, sym, refl, ap, ◌∙◌, subst, arith}
+use Rattle.std.proofs.Common.{◌≡◌, ℕ, zero, suc, List, [], ◌∷◌, ◌++◌, length, get_or, sym, refl, subst}
 use lib.ListN.{get_or-eq_default}
-use Rattle.system.specs.Transitions.{Transitions, Clash}
-use Rattle.system.specs.Runs.{Step, command, rest, Leads, Walk, Reachable, Run, PassesThrough, ReachesClash}
-use Rattle.system_laws.specs.Passing.{RestsAfter, WalksExtendToRuns, ReachableIsPassedThrough, ClashFreeByStates}
+use Rattle.system.specs.Transitions.{Transitions}
+use Rattle.system.specs.Runs.{Step, rest, Leads, Walk, Reachable, Run}
+use Rattle.system_laws.specs.Passing.{WalksExtendToRuns, ReachableIsPassedThrough, ClashFreeByStates}
 
 module _ (T : Transitions) where
   -- The state of the walk before its step i, and its last state from its end on.
