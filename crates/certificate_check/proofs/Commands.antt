@@ -1,11 +1,11 @@
 -- Steps of the search for a command that breaks the rank rule. Assumes nothing.
-use Rattle.std.proofs.Common.{◌≡◌, ℕ, zero, suc, ◌+◌, ◌<◌, ◌≤◌, Bool, true, false, ◌⊎◌, ◌↔◌, List, length, get_or, replicate, Some, None, Decides, Option, sym, refl, ap, ◌∙◌, subst, inl, inr, arith}
+use Rattle.std.proofs.Common.{◌≡◌, ℕ, zero, suc, ◌<◌, ◌≤◌, Bool, true, false, ◌⊎◌, ◌↔◌, List, length, get_or, replicate, Some, None, Decides, Option, sym, refl, ◌∙◌, subst, inl, inr, arith}
 use Rattle.system.specs.Transitions.{Waits}
 use Rattle.system.specs.Justice.{FairSystem, Lawful}
 use Rattle.rank.specs.declared.Row.{Row}
 use Rattle.rank.specs.Kinds.{Kind}
 use Rattle.rank.specs.Rows.{Falls}
-use Rattle.rank_rule.specs.Certificate.{Certificate, RowAt, HasRow}
+use Rattle.rank_rule.specs.Certificate.{Certificate, HasRow}
 use Rattle.rank_rule.specs.Rule.{FallsTo, RanksFallAt}
 use Rattle.certificate_theory.specs.Points.{LeastSpot, OnlyRow}
 use Rattle.certificate_theory.proofs.Spots.{spot}

@@ -1,5 +1,5 @@
 -- Marking the classes that are enabled. Assumes nothing.
-use Rattle.std.proofs.Common.{◌≡◌, ℕ, ◌+◌, ◌<◌, ◌≤◌, Bool, true, false, ◌≢◌, ◌⊎◌, List, length, get_or, set, replicate, is_some, Some, None, Decides, Option, sym, refl, ap, ◌∙◌, subst, inl, inr, arith, length-set, get_or-set_other, get_or-set_same}
+use Rattle.std.proofs.Common.{◌≡◌, ℕ, ◌+◌, ◌<◌, ◌≤◌, Bool, true, false, ◌≢◌, ◌⊎◌, List, length, get_or, set, is_some, Some, None, Decides, Option, sym, refl, ◌∙◌, subst, inl, inr, arith, length-set, get_or-set_other, get_or-set_same}
 use Rattle.system.specs.Transitions.{Enabled}
 use Rattle.system.specs.Justice.{FairSystem, Lawful, ClassEnabled}
 use Rattle.certificate_check.specs.Marks.{EnabledClass, Marked}

@@ -1,5 +1,5 @@
 -- The lists of a view, where it says that they begin. Assumes nothing.
-use Rattle.std.proofs.Common.{◌≡◌, ℕ, ◌+◌, ◌*◌, ◌<◌, ◌≤◌, Bool, true, false, List, length, get_or, is_some, Some, None, Decides, Option, sym, ap, ◌∙◌, subst, ap₂, arith}
+use Rattle.std.proofs.Common.{◌≡◌, ℕ, ◌+◌, ◌*◌, ◌<◌, ◌≤◌, Bool, List, length, get_or, is_some, Some, None, Decides, Option, sym, ap, ◌∙◌, subst, ap₂, arith}
 use Rattle.byte_numbers.specs.Numbers.{number_at}
 use Rattle.rank.specs.Kinds.{numbers_at}
 use Rattle.rank_rule.specs.Certificate.{Listed, HasRow}

@@ -1,5 +1,5 @@
 -- The certificate that a view holds, and where its rows are. Assumes nothing.
-use Rattle.std.specs.Prelude.{◌≡◌, ℕ, ◌+◌, ◌*◌, ◌<◌, ◌≤◌, length, Some, None, Option}
+use Rattle.std.specs.Prelude.{ℕ, ◌+◌, ◌*◌, ◌≤◌, length, Some, None, Option}
 use Rattle.rank_rule.specs.Certificate.{Certificate, HasRow}
 use Rattle.certificate_theory.specs.Content.{content, row_at}
 use Rattle.certificate_theory.specs.Points.{OnlyRow}

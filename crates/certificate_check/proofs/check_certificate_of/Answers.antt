@@ -2,7 +2,7 @@ use Rattle.std.proofs.Common.{◌≡◌, ℕ, ◌<◌, ◌≤◌, get_or, Err, s
 use Rattle.std.proofs.lemmas.Result.{err_from_is_err_and}
 use Rattle.certificate_theory.specs.declared.limits.Limits.{Limits}
 use Rattle.certificate_theory.specs.Reading.{Reads}
-use Rattle.certificate_theory.specs.Content.{limits_of_lem, rows_start}
+use Rattle.certificate_theory.specs.Content.{rows_start}
 use Rattle.certificate_theory.specs.Judging.{Answered}
 use Rattle.certificate_theory.proofs.Scans.{reads_are_whole}
 use Rattle.certificate_theory.proofs.Orderly.{answered_all, judged_answered}

@@ -1,7 +1,5 @@
-use Rattle.std.proofs.Common.{◌≡◌, ap}
-use Rattle.certificate_theory.specs.declared.clause.Clause.TheVariants.{StartListed}
+use Rattle.std.proofs.Common.{ap}
 use Rattle.certificate_theory.specs.declared.limits.Limits.{Limits}
-use Rattle.certificate_theory.specs.Refusals.{order}
 use Rattle.certificate_theory.proofs.Scans.{whole_reads}
 use Rattle.certificate_theory.proofs.Orderly.{none_first, one_more, clause_holds, clause_refused, rule_met}
 use Rattle.certificate_view.specs.Held.{certificate_of}

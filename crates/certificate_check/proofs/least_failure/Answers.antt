@@ -1,4 +1,4 @@
-use Rattle.std.proofs.Common.{◌≡◌, ℕ, ◌+◌, ◌<◌, ◌≤◌, Some, None, Option, sym, ◌∙◌, subst, arith}
+use Rattle.std.proofs.Common.{◌≡◌, ℕ, ◌+◌, Some, None, Option, sym, ◌∙◌, subst, arith}
 use Rattle.certificate_theory.specs.declared.point.Point.{Point}
 use Rattle.certificate_theory.specs.Judging.{HoldsAt}
 use Rattle.certificate_theory.specs.Points.{LeastSpot, LeastPoint}

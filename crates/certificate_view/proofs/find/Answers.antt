@@ -1,4 +1,4 @@
-use Rattle.std.proofs.Common.{ℕ, ◌+◌, ◌-◌, ◌/◌, ◌<◌, arith, rules}
+use Rattle.std.proofs.Common.{ℕ, ◌+◌, ◌-◌, ◌/◌, ◌<◌, arith}
 use Rattle.certificate_theory.specs.Lists.{state_of}
 use Rattle.certificate_view.proofs.Halving.{all_below, all_above}
 use Rattle.certificate_view.proofs.find.Goals as goal

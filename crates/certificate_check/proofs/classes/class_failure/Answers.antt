@@ -1,4 +1,4 @@
-use Rattle.std.proofs.Common.{ℕ, List, refl, below_more}
+use Rattle.std.proofs.Common.{refl, below_more}
 use Rattle.rank_rule.specs.Rule.{ClassesEnabledAt}
 use Rattle.certificate_theory.proofs.Spots.{denied, process_fails, processes_hold}
 use Rattle.certificate_view.specs.Held.{certificate_of}

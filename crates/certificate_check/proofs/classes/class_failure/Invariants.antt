@@ -1,5 +1,4 @@
-use Rattle.std.proofs.Common.{ℕ, ◌<◌, false, get_or, Decides}
-use Rattle.system.specs.Justice.{ClassEnabled}
+use Rattle.std.proofs.Common.{ℕ, ◌<◌}
 use Rattle.rank_rule.specs.Rule.{ClassesEnabledAt}
 use Rattle.certificate_view.specs.Held.{certificate_of}
 use Rattle.certificate_check.proofs.classes.class_failure.Given as goal

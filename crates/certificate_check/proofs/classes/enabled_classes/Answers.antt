@@ -1,4 +1,4 @@
-use Rattle.std.proofs.Common.{◌≡◌, ◌+◌, ◌≤◌, sym, subst, arith}
+use Rattle.std.proofs.Common.{◌+◌, ◌≤◌, sym, subst, arith}
 use Rattle.certificate_check.specs.Marks.{Marked}
 use Rattle.certificate_check.proofs.Marking.{marked_none, marked_some, marked_all}
 use Rattle.certificate_check.proofs.classes.enabled_classes.Goals as goal

@@ -1,6 +1,6 @@
-use Rattle.std.proofs.Common.{◌≡◌, ℕ, ◌<◌, ◌≤◌, ◌⊎◌, Some, refl, inl, inr, arith, below_more}
+use Rattle.std.proofs.Common.{◌<◌, refl, arith, below_more}
 use Rattle.rank_rule.specs.Rule.{SuccessorsListedAt}
-use Rattle.certificate_theory.proofs.Spots.{denied, past_commands, command_fails}
+use Rattle.certificate_theory.proofs.Spots.{denied, command_fails}
 use Rattle.certificate_view.specs.Held.{certificate_of}
 use Rattle.certificate_check.proofs.clauses.successor_failure.Goals as goal
 

@@ -1,4 +1,4 @@
-use Rattle.std.proofs.Common.{◌≡◌, ℕ, ◌<◌, ◌≤◌, ◌≢◌, ◌⊎◌, length, get_or, set, None, sym, refl, ◌∙◌, inl, inr, arith, length-set, get_or-set_other, get_or-set_same, below_more}
+use Rattle.std.proofs.Common.{◌≡◌, ◌<◌, ◌≢◌, length, get_or, set, None, sym, ◌∙◌, inl, inr, arith, length-set, get_or-set_other, get_or-set_same, below_more}
 use Rattle.certificate_check.proofs.Commands.{below_or_past, no_successor, none_at, sixty_four}
 use Rattle.certificate_check.proofs.ranks.successors_of.Goals as goal
 
