@@ -1,9 +1,8 @@
 -- What declarations declare. Assumes nothing.
-use Rattle.std.specs.Prelude.{◌≡◌, ℕ, ◌+◌, ◌-◌, ◌<◌, ◌≤◌, cond, List, [], ◌∷◌, ◌++◌, length, replicate, nat_lt, slice_index}
+use Rattle.std.specs.Prelude.{◌≡◌, ℕ, ◌+◌, ◌-◌, cond, List, ◌++◌, length, replicate, nat_lt, slice_index}
 use Rattle.system.specs.declared.Region.{Region}
 use Rattle.system.specs.declared.Region.TheVariants.{Idle}
-use Rattle.step_rule.specs.Programs.{Program, declared, DigitsBelow}
-use Rattle.step_rule.specs.Codes.{WellFormed, radices, mixed}
+use Rattle.step_rule.specs.Programs.{Program, declared}
 use Rattle.declarations.specs.declared.record.Declarations.{Declarations}
 use Rattle.declarations.specs.Shape.{frame_of}
 

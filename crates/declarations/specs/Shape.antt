@@ -1,8 +1,7 @@
 -- What the fields of declarations hold. Assumes nothing.
-use Rattle.std.specs.Prelude.{◌≡◌, ℕ, ◌+◌, ◌≤◌, List, [], ◌∷◌, length, take}
+use Rattle.std.specs.Prelude.{◌≡◌, ℕ, ◌≤◌, List, length, take}
 use Rattle.system.specs.declared.Region.{Region}
 use Rattle.step_rule.specs.Programs.{Program, declared}
-use Rattle.step_rule.specs.Codes.{WellFormed, state_count}
 
 -- The program that the first variables and the first regions declare.
 abbrev pub frame_of : ℕ → ℕ → List ℕ → List ℕ → ℕ → List Region → Program

@@ -1,14 +1,14 @@
 -- The items of a tree leave its value on the stack.
-use Rattle.std.proofs.Common.{◌≡◌, ℕ, suc, ◌+◌, ◌-◌, ◌*◌, ◌<◌, ◌≤◌, Bool, true, false, cond, ◌&&◌, ltb, List, [], ◌∷◌, ◌++◌, length, get_or, drop, ℤ, pos, negsuc, ◌+ℤ◌, ◌-ℤ◌, ◌≤ℤ◌, ◌<ℤ◌, Some, None, Option, sym, refl, ap, ◌∙◌, subst, append_assoc, append-nil, arith}
+use Rattle.std.proofs.Common.{◌≡◌, ℕ, ◌+◌, ◌*◌, ◌<◌, ◌≤◌, Bool, true, false, ◌&&◌, ltb, List, [], ◌∷◌, ◌++◌, length, get_or, drop, ℤ, pos, negsuc, ◌+ℤ◌, ◌≤ℤ◌, Some, None, Option, sym, refl, ap, ◌∙◌, subst, append_assoc, append-nil, arith}
 use lib.Signed.{le_z}
 use Rattle.std.proofs.lemmas.Bool.{lt-ltb, cond-true, and_from}
 use Rattle.std.proofs.lemmas.List.{drop_more, drop_all}
 use Rattle.std.proofs.lemmas.Int.{ints}
-use Rattle.expression.specs.Tree.{Tree, number, variable, denial, joined, items, operands, value, applied, is_true, truth, Within}
+use Rattle.expression.specs.Tree.{Tree, number, variable, denial, joined, items, operands, applied, truth, Within}
 use Rattle.expression.specs.declared.Operator.{Operator}
 use Rattle.expression.specs.declared.Operator.TheVariants.{Or, And, Equal, NotEqual, Less, LessEqual, Plus, Minus}
 use Rattle.expression.specs.declared.Item.{Item}
-use Rattle.expression.specs.declared.Item.TheVariants.{Number, Variable, Not, Operator as Joins}
+use Rattle.expression.specs.declared.Item.TheVariants.{Not, Operator as Joins}
 use Rattle.step_rule.specs.Rule.{vars_of, worth}
 use Rattle.evaluation.specs.Postfix.{small, pushed, stepped, single, worked_out, GivesValues}
 

@@ -1,5 +1,5 @@
 -- What is sound has one proof at most. Assumes nothing.
-use Rattle.std.specs.Prelude.{◌≡◌, ℕ, Bool, List}
+use Rattle.std.specs.Prelude.{ℕ, List}
 use Rattle.std.proofs.Math.Bool.{Bool-set}
 use mathlib.Core.HLevel.{×₃_prop, →_prop}
 use Rattle.std.proofs.Math.Logic.{∥∥₁_elim}

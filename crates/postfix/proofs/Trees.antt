@@ -1,12 +1,12 @@
 -- Items and trees.
-use Rattle.std.proofs.Common.{◌≡◌, ℕ, zero, suc, ◌+◌, ◌-◌, ◌<◌, ◌≤◌, Bool, true, false, ◌&&◌, eqb, ltb, List, [], ◌∷◌, ◌++◌, length, get_or, drop, sym, refl, ap, ◌∙◌, subst, append_assoc, append-nil, arith}
+use Rattle.std.proofs.Common.{◌≡◌, ℕ, ◌+◌, ◌-◌, ◌<◌, ◌≤◌, Bool, true, false, ◌&&◌, eqb, ltb, List, [], ◌∷◌, ◌++◌, length, get_or, drop, sym, refl, ap, ◌∙◌, subst, append_assoc, append-nil, arith}
 use Rattle.std.proofs.lemmas.List.{drop_more, drop_all}
-use Rattle.std.proofs.lemmas.Bool.{lt-ltb, ltb-true, eqb-true, and_parts, and_from}
+use Rattle.std.proofs.lemmas.Bool.{lt-ltb, ltb-true, eqb-true, and_parts}
 use Rattle.expression.specs.Tree.{Tree, number, variable, denial, joined, items, operands, Within}
 use Rattle.expression.specs.declared.Item.{Item}
 use Rattle.expression.specs.declared.Item.TheVariants.{Number, Variable, Not, Operator as Joins}
 use Rattle.step_rule.specs.Programs.{GoodTree}
-use Rattle.postfix.specs.Decoding.{grown, trees, first_of, tree_of, goes_on, admitted, IsExpression}
+use Rattle.postfix.specs.Decoding.{trees, first_of, tree_of, goes_on, admitted, IsExpression}
 
 some_operand : (e : Tree) → 1 ≤ operands e
 some_operand (number k) = omega arith

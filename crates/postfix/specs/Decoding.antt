@@ -1,5 +1,5 @@
 -- Postfix items and the expression that they are of. Assumes nothing.
-use Rattle.std.specs.Prelude.{◌≡◌, ℕ, ◌+◌, ◌-◌, Bool, true, false, ◌&&◌, List, [], ◌∷◌, ◌==◌, nat_lt}
+use Rattle.std.specs.Prelude.{◌≡◌, ℕ, ◌+◌, ◌-◌, Bool, ◌&&◌, List, [], ◌∷◌, ◌==◌, nat_lt}
 use Rattle.expression.specs.Tree.{Tree, number, variable, denial, joined, items}
 use Rattle.expression.specs.declared.Item.{Item}
 use Rattle.expression.specs.declared.Item.TheVariants.{Number, Variable, Not, Operator as Joins}

@@ -1,11 +1,11 @@
 -- The system of a well-formed program is lawful.
-use Rattle.std.proofs.Common.{◌≡◌, ℕ, zero, suc, ◌+◌, ◌<◌, ◌≤◌, Bool, true, false, cond, ◌&&◌, ltb, ◌⊎◌, List, [], ◌∷◌, length, get_or, replicate, Some, None, Option, sym, refl, ap, ◌∙◌, subst, inl, inr, arith}
-use Rattle.std.proofs.lemmas.Bool.{le-ltb, and_left, and_right, cond-false, cases_lt, ltb-true, lt-ltb}
+use Rattle.std.proofs.Common.{◌≡◌, ℕ, zero, suc, ◌<◌, ◌≤◌, false, ◌&&◌, ltb, ◌⊎◌, List, length, replicate, Some, None, Option, refl, subst, inl, inr, arith}
+use Rattle.std.proofs.lemmas.Bool.{le-ltb, and_left, and_right, cond-false, cases_lt}
 use Rattle.std.proofs.lemmas.Option.{slice_get_past}
 use Rattle.std.specs.List.{slice_get}
 use Rattle.system.specs.Justice.{Lawful}
 use Rattle.step_rule.specs.Programs.{Program, Command, DigitsBelow, GoodClass}
-use Rattle.step_rule.specs.Codes.{State, IsState, WellFormed, state_count, code_of, state_of}
+use Rattle.step_rule.specs.Codes.{IsState, WellFormed, state_count, state_of}
 use Rattle.step_rule.specs.Rule.{start_state, after}
 use Rattle.step_rule.specs.Meaning.{meaning_of, class_by}
 use Rattle.step_rule.proofs.Digits.{code_below, state_there}

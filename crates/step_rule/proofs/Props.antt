@@ -1,5 +1,5 @@
 -- That a program is well formed has one proof at most.
-use Rattle.std.proofs.Common.{◌≡◌, ℕ, ◌<◌, ◌≤◌, List, [], ◌∷◌, length, Some, None, Option}
+use Rattle.std.proofs.Common.{ℕ, List, [], ◌∷◌, Some, None, Option}
 use mathlib.Core.HLevel.{⊥_prop, Unit-prop, ¬_prop, ×_prop}
 use mathlib.Core.Logic.{∥∥₁_elim}
 use native.Mathlib.Bridge.{le_prop}

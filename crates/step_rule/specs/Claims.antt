@@ -1,12 +1,12 @@
 -- What the step rule and the codes promise. Assumes nothing.
-use Rattle.std.specs.Prelude.{◌≡◌, ℕ, ◌+◌, ◌*◌, ◌^◌, ◌<◌, ◌≤◌, List, map, length, ℤ, pos, ◌+ℤ◌, ◌*ℤ◌, Some}
+use Rattle.std.specs.Prelude.{◌≡◌, ℕ, ◌+◌, ◌*◌, ◌^◌, ◌<◌, ◌≤◌, List, length, ℤ, pos, ◌+ℤ◌, ◌*ℤ◌, Some}
 use Rattle.std.specs.List.{slice_get}
 use Rattle.system.specs.Justice.{Lawful}
-use Rattle.expression.specs.Tree.{Tree, number, joined, denial, value}
+use Rattle.expression.specs.Tree.{number, joined, denial}
 use Rattle.expression.specs.declared.Operator.TheVariants.{Minus, Equal}
 use Rattle.step_rule.specs.Programs.{Program, Command, product}
 use Rattle.step_rule.specs.Codes.{State, WellFormed, IsState, state_count, code_of, state_of, value_radices}
-use Rattle.step_rule.specs.Rule.{Steps, remainder, vars_of, worth}
+use Rattle.step_rule.specs.Rule.{Steps, remainder, worth}
 use Rattle.step_rule.specs.Meaning.{meaning_of}
 
 -- Codes and states are one to one: each state of a program has a code below the count of states, and is the state of

@@ -1,5 +1,5 @@
 -- A lock program in the words of its language, and when it is well formed. Assumes nothing.
-use Rattle.std.specs.Prelude.{◌≡◌, ℕ, ◌+◌, ◌*◌, ◌<◌, ◌≤◌, List, [], ◌∷◌, length, Some, None, Option}
+use Rattle.std.specs.Prelude.{◌≡◌, ℕ, ◌*◌, ◌<◌, ◌≤◌, List, [], ◌∷◌, Some, None, Option}
 use Rattle.std.specs.List.{AllByRecursion}
 use Rattle.expression.specs.Tree.{Tree, Within, operands, max_operands}
 use Rattle.system.specs.declared.Region.{Region}

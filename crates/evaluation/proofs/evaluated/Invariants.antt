@@ -1,4 +1,4 @@
-use Rattle.std.proofs.Common.{◌≡◌, [], drop, Some}
+use Rattle.std.proofs.Common.{◌≡◌, drop, Some}
 use Rattle.stack.specs.Held.{held, places}
 use Rattle.evaluation.specs.Postfix.{worked_out}
 use Rattle.evaluation.proofs.evaluated.Given as goal

@@ -1,5 +1,5 @@
-use Rattle.std.proofs.Common.{◌≡◌, ◌+◌, false, eqb, drop, sym, refl, ap, ◌∙◌}
-use Rattle.postfix.specs.Decoding.{admitted, goes_on}
+use Rattle.std.proofs.Common.{◌≡◌, ◌+◌, false, eqb, drop, sym, refl, ◌∙◌}
+use Rattle.postfix.specs.Decoding.{admitted}
 use Rattle.postfix.proofs.Trees.{answered, ahead, at_end}
 use Rattle.postfix.proofs.is_expression.Goals as goal
 
