@@ -3,7 +3,7 @@
 
 ghost use Rattle.std.specs.Prelude.{◌≡◌, ℕ, ◌+◌, ◌*◌, ◌<◌, ◌≤◌, [], ◌∷◌, length, Some, None, Ok, Err, slice_index};
 ghost use Rattle.byte_numbers.specs.Numbers.{number_at};
-ghost use Rattle.certificate_theory.specs.Fields.{state as state-field, widths, rank_fields, row_tail, entries, list_fields, list_end, row_lists};
+ghost use Rattle.certificate_theory.specs.Fields.{state as state_field, widths, rank_fields, row_tail, entries, list_fields, list_end, row_lists};
 ghost use Rattle.certificate_theory.specs.Reading.{is_above_lem, field_fault, first_fault, reading_fault};
 ghost use Rattle.certificate_theory.specs.Content.{list_start, limits_of_lem};
 ghost use Rattle.certificate_read.specs.Views.{tail_of, entry_width_lem, refusal_in, Begins, ReadRightly};
@@ -71,7 +71,7 @@ fn is_above(state: u32, before: Option<u32>) -> bool
 
 // The state of an entry.
 fn read_state(bytes: &[u8], at: usize, before: Option<u32>, limits: Limits) -> Result<u32, Refusal>
-    ensures told { refusal_in result ≡ field_fault limits bytes.now at (state-field before) }
+    ensures told { refusal_in result ≡ field_fault limits bytes.now at (state_field before) }
     ensures read { elim result [ Ok state ↦ (state ≡ number_at bytes.now at) × (at + 4 ≤ length bytes.now) | Err e ↦ Unit {0} ] }
 {
     let Some(state) = number_at(bytes, at) else {
@@ -92,7 +92,7 @@ fn read_entry(
     shape: Shape,
     limits: Limits,
 ) -> Result<u32, Refusal>
-    ensures told { refusal_in result ≡ first_fault limits bytes.now at (state-field before ∷ tail_of shape limits.numbers) }
+    ensures told { refusal_in result ≡ first_fault limits bytes.now at (state_field before ∷ tail_of shape limits.numbers) }
     ensures read { elim result [ Ok state ↦ (state ≡ number_at bytes.now at) × (at + entry_width_lem shape limits.numbers ≤ length bytes.now) | Err e ↦ Unit {0} ] }
 {
     let state = read_state(bytes, at, before, limits)?;

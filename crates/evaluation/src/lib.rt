@@ -4,7 +4,7 @@
 ghost use Rattle.std.specs.Prelude.{◌≡◌, ◌&&◌, [], ◌∷◌, length, pos, if◌then◌else◌, Some, None};
 ghost use Rattle.stack.specs.Held.{held, places};
 ghost use Rattle.expression.specs.Tree.{applied as joint, denied as inverse, truth, is_true};
-ghost use Rattle.step_rule.specs.Rule.{remainder as least-remainder};
+ghost use Rattle.step_rule.specs.Rule.{remainder as least_remainder};
 ghost use Rattle.evaluation.specs.Postfix.{small, pushed, stepped, worked_out, GivesValues};
 
 use expression::{Item, Operator};
@@ -12,7 +12,7 @@ use stack::Stack;
 
 /// The least non-negative remainder of `x` by one more than the maximum.
 pub fn remainder(x: i32, maximum: u8) -> u8
-    ensures { result ≡ least-remainder x maximum }
+    ensures { result ≡ least_remainder x maximum }
 {
     x.rem_euclid(maximum as i32 + 1) as u8
 }

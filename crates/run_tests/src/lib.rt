@@ -4,7 +4,6 @@
 #[cfg(test)]
 mod tests {
     use run_check::check_run;
-    use std::process::Abort;
     use std::test::Fail;
     use system::{Region, System};
     use table::{Shape, Table};
@@ -20,6 +19,14 @@ mod tests {
                 let place = refusal.place();
                 (refusal.number(), place.process, place.index, place.command)
             }
+        }
+    }
+
+    fn same(found: Answer, wanted: Answer) -> Result<(), Fail> {
+        if found == wanted {
+            Ok(())
+        } else {
+            Err(Fail::new("another answer"))
         }
     }
 
@@ -40,7 +47,7 @@ mod tests {
 
     const UNCLASSED_REGIONS: [Region; 3] = [Region::Idle, Region::Try, Region::Crit];
 
-    fn unclassed(rt: &impl Abort, bytes: &[u8], wanted: Answer) -> Result<(), Fail> {
+    fn unclassed(bytes: &[u8], wanted: Answer) -> Result<(), Fail> {
         let Some(shape) = Shape::new(1, 1, 3, 3, 0) else {
             return Err(Fail::new("shape"));
         };
@@ -50,8 +57,7 @@ mod tests {
             classed: &UNCLASSED_CLASSES,
             regions: &UNCLASSED_REGIONS,
         };
-        assert_eq!(rt; answer(&lock, bytes), wanted);
-        Ok(())
+        same(answer(&lock, bytes), wanted)
     }
 
     // Two processes and a bit that each tests and sets. A state is the bit, then the places of process 0 and process 1, as
@@ -208,7 +214,7 @@ mod tests {
         Region::Crit,
     ];
 
-    fn test_and_set(rt: &impl Abort, bytes: &[u8], wanted: Answer) -> Result<(), Fail> {
+    fn test_and_set(bytes: &[u8], wanted: Answer) -> Result<(), Fail> {
         let Some(shape) = Shape::new(2, 2, 6, 18, 0) else {
             return Err(Fail::new("shape"));
         };
@@ -218,8 +224,7 @@ mod tests {
             classed: &TEST_AND_SET_CLASSES,
             regions: &TEST_AND_SET_REGIONS,
         };
-        assert_eq!(rt; answer(&lock, bytes), wanted);
-        Ok(())
+        same(answer(&lock, bytes), wanted)
     }
 
     // Two processes that enter crit as they like: state 3 is a clash.
@@ -247,7 +252,7 @@ mod tests {
         Region::Crit,
     ];
 
-    fn open(rt: &impl Abort, bytes: &[u8], wanted: Answer) -> Result<(), Fail> {
+    fn open(bytes: &[u8], wanted: Answer) -> Result<(), Fail> {
         let Some(shape) = Shape::new(2, 0, 2, 4, 0) else {
             return Err(Fail::new("shape"));
         };
@@ -257,149 +262,99 @@ mod tests {
             classed: &OPEN_DOOR_CLASSES,
             regions: &OPEN_DOOR_REGIONS,
         };
-        assert_eq!(rt; answer(&lock, bytes), wanted);
-        Ok(())
+        same(answer(&lock, bytes), wanted)
     }
 
     #[test]
-    fn resting_is_just_without_a_class(rt: HostRuntime) -> Result<(), Fail> {
-        unclassed(&rt, &[2, 0, 1, 0, 0, 0, 0, 1, 0, 0, 0, 255], (0, 0, 0, 0))?;
-        unclassed(&rt, &[2, 0, 0, 0, 0, 0, 1, 0, 0, 0, 255], (39, 0, 0, 0))?;
-        unclassed(
-            &rt,
-            &[2, 0, 2, 0, 0, 0, 0, 1, 1, 0, 0, 0, 255],
-            (39, 0, 2, 0),
-        )?;
-        unclassed(&rt, &[1, 0, 1, 0, 0, 0, 0, 0, 0, 0, 0], (37, 0, 1, 0))
+    fn resting_is_just_without_a_class() -> Result<(), Fail> {
+        unclassed(&[2, 0, 1, 0, 0, 0, 0, 1, 0, 0, 0, 255], (0, 0, 0, 0))?;
+        unclassed(&[2, 0, 0, 0, 0, 0, 1, 0, 0, 0, 255], (39, 0, 0, 0))?;
+        unclassed(&[2, 0, 2, 0, 0, 0, 0, 1, 1, 0, 0, 0, 255], (39, 0, 2, 0))?;
+        unclassed(&[1, 0, 1, 0, 0, 0, 0, 0, 0, 0, 0], (37, 0, 1, 0))
     }
 
     #[test]
-    fn the_other_process_goes_round(rt: HostRuntime) -> Result<(), Fail> {
+    fn the_other_process_goes_round() -> Result<(), Fail> {
+        test_and_set(&[2, 0, 1, 0, 0, 0, 0, 3, 0, 0, 0, 3, 4, 5], (0, 0, 0, 0))?;
+        test_and_set(&[2, 0, 2, 0, 0, 0, 0, 3, 3, 0, 0, 0, 4, 5, 3], (0, 0, 0, 0))?;
         test_and_set(
-            &rt,
-            &[2, 0, 1, 0, 0, 0, 0, 3, 0, 0, 0, 3, 4, 5],
-            (0, 0, 0, 0),
-        )?;
-        test_and_set(
-            &rt,
-            &[2, 0, 2, 0, 0, 0, 0, 3, 3, 0, 0, 0, 4, 5, 3],
-            (0, 0, 0, 0),
-        )?;
-        test_and_set(
-            &rt,
             &[2, 0, 1, 0, 0, 0, 0, 4, 0, 0, 0, 3, 255, 4, 5],
             (0, 0, 0, 0),
         )?;
-        test_and_set(
-            &rt,
-            &[2, 0, 1, 0, 0, 0, 0, 2, 0, 0, 0, 3, 4],
-            (38, 0, 15, 0),
-        )?;
-        test_and_set(&rt, &[2, 0, 1, 0, 0, 0, 0, 1, 0, 0, 0, 255], (40, 0, 0, 0))
+        test_and_set(&[2, 0, 1, 0, 0, 0, 0, 2, 0, 0, 0, 3, 4], (38, 0, 15, 0))?;
+        test_and_set(&[2, 0, 1, 0, 0, 0, 0, 1, 0, 0, 0, 255], (40, 0, 0, 0))
     }
 
     #[test]
-    fn a_clash_at_the_end_of_the_stem(rt: HostRuntime) -> Result<(), Fail> {
-        open(&rt, &[1, 0, 2, 0, 0, 0, 0, 1, 0, 0, 0, 0], (0, 0, 0, 0))?;
-        open(
-            &rt,
-            &[1, 0, 3, 0, 0, 0, 1, 255, 0, 0, 0, 0, 0],
-            (0, 0, 0, 0),
-        )?;
-        open(&rt, &[1, 0, 1, 0, 0, 0, 1, 0, 0, 0, 0], (37, 0, 2, 0))?;
-        open(&rt, &[1, 0, 0, 0, 0, 0, 0, 0, 0, 0], (37, 0, 0, 0))?;
-        open(&rt, &[1, 0, 2, 0, 0, 0, 0, 0, 0, 0, 0, 0], (36, 0, 1, 0))
+    fn a_clash_at_the_end_of_the_stem() -> Result<(), Fail> {
+        open(&[1, 0, 2, 0, 0, 0, 0, 1, 0, 0, 0, 0], (0, 0, 0, 0))?;
+        open(&[1, 0, 3, 0, 0, 0, 1, 255, 0, 0, 0, 0, 0], (0, 0, 0, 0))?;
+        open(&[1, 0, 1, 0, 0, 0, 1, 0, 0, 0, 0], (37, 0, 2, 0))?;
+        open(&[1, 0, 0, 0, 0, 0, 0, 0, 0, 0], (37, 0, 0, 0))?;
+        open(&[1, 0, 2, 0, 0, 0, 0, 0, 0, 0, 0, 0], (36, 0, 1, 0))
     }
 
     #[test]
-    fn cut_at_every_byte(rt: HostRuntime) -> Result<(), Fail> {
+    fn cut_at_every_byte() -> Result<(), Fail> {
         let run = [2, 0, 1, 0, 0, 0, 0, 3, 0, 0, 0, 3, 4, 5];
         let fields = [0, 1, 2, 2, 2, 2, 6, 7, 7, 7, 7, 11, 12, 13];
         for n in 0..14 {
-            test_and_set(&rt, &run[..n], (31, 0, fields[n], 0))?;
+            test_and_set(&run[..n], (31, 0, fields[n], 0))?;
         }
         Ok(())
     }
 
     #[test]
-    fn a_wrong_field(rt: HostRuntime) -> Result<(), Fail> {
-        test_and_set(&rt, &[0, 9], (32, 0, 0, 0))?;
+    fn a_wrong_field() -> Result<(), Fail> {
+        test_and_set(&[0, 9], (32, 0, 0, 0))?;
+        test_and_set(&[3, 0, 1, 0, 0, 0, 0, 3, 0, 0, 0, 3, 4, 5], (32, 0, 0, 0))?;
+        test_and_set(&[2, 2, 1, 0, 0, 0, 0, 3, 0, 0, 0, 3, 4, 5], (33, 0, 1, 0))?;
+        test_and_set(&[1, 1, 0, 0, 0, 0, 0, 0, 0, 0], (33, 0, 1, 0))?;
+        test_and_set(&[2, 0, 1, 0, 0, 0, 6, 3, 0, 0, 0, 3, 4, 5], (34, 0, 6, 0))?;
         test_and_set(
-            &rt,
-            &[3, 0, 1, 0, 0, 0, 0, 3, 0, 0, 0, 3, 4, 5],
-            (32, 0, 0, 0),
-        )?;
-        test_and_set(
-            &rt,
-            &[2, 2, 1, 0, 0, 0, 0, 3, 0, 0, 0, 3, 4, 5],
-            (33, 0, 1, 0),
-        )?;
-        test_and_set(&rt, &[1, 1, 0, 0, 0, 0, 0, 0, 0, 0], (33, 0, 1, 0))?;
-        test_and_set(
-            &rt,
-            &[2, 0, 1, 0, 0, 0, 6, 3, 0, 0, 0, 3, 4, 5],
-            (34, 0, 6, 0),
-        )?;
-        test_and_set(
-            &rt,
             &[2, 0, 1, 0, 0, 0, 0, 3, 0, 0, 0, 3, 254, 5],
             (34, 0, 12, 0),
         )?;
-        test_and_set(&rt, &[2, 0, 1, 0, 0, 0, 0, 0, 0, 0, 0], (35, 0, 7, 0))?;
-        test_and_set(&rt, &[1, 0, 0, 0, 0, 0, 1, 0, 0, 0], (35, 0, 6, 0))?;
+        test_and_set(&[2, 0, 1, 0, 0, 0, 0, 0, 0, 0, 0], (35, 0, 7, 0))?;
+        test_and_set(&[1, 0, 0, 0, 0, 0, 1, 0, 0, 0], (35, 0, 6, 0))?;
         test_and_set(
-            &rt,
             &[2, 0, 1, 0, 0, 0, 0, 3, 0, 0, 0, 3, 4, 5, 0],
             (31, 0, 14, 0),
         )
     }
 
     #[test]
-    fn the_shortest_of_each_fault(rt: HostRuntime) -> Result<(), Fail> {
-        test_and_set(&rt, &[], (31, 0, 0, 0))?;
-        test_and_set(&rt, &[3], (32, 0, 0, 0))?;
-        test_and_set(&rt, &[2, 2], (33, 0, 1, 0))?;
-        test_and_set(&rt, &[2, 0, 1, 0, 0, 0, 6], (34, 0, 6, 0))?;
-        test_and_set(&rt, &[2, 0, 1, 0, 0, 0, 0, 0, 0, 0, 0], (35, 0, 7, 0))?;
-        test_and_set(&rt, &[1, 0, 1, 0, 0, 0, 0, 0, 0, 0, 0], (37, 0, 2, 0))
+    fn the_shortest_of_each_fault() -> Result<(), Fail> {
+        test_and_set(&[], (31, 0, 0, 0))?;
+        test_and_set(&[3], (32, 0, 0, 0))?;
+        test_and_set(&[2, 2], (33, 0, 1, 0))?;
+        test_and_set(&[2, 0, 1, 0, 0, 0, 6], (34, 0, 6, 0))?;
+        test_and_set(&[2, 0, 1, 0, 0, 0, 0, 0, 0, 0, 0], (35, 0, 7, 0))?;
+        test_and_set(&[1, 0, 1, 0, 0, 0, 0, 0, 0, 0, 0], (37, 0, 2, 0))
     }
 
     #[test]
-    fn counts_mean_nothing_until_the_bytes_are_there(rt: HostRuntime) -> Result<(), Fail> {
-        test_and_set(&rt, &[2, 0, 255, 255, 255, 255], (31, 0, 6, 0))?;
-        test_and_set(&rt, &[2, 0, 255, 255, 255, 255, 0, 255], (31, 0, 8, 0))?;
-        test_and_set(&rt, &[2, 0, 255, 255, 255, 255, 0, 77], (34, 0, 7, 0))?;
-        test_and_set(&rt, &[2, 0, 0, 0, 0, 0, 255, 255, 255, 255], (31, 0, 10, 0))?;
-        test_and_set(&rt, &[2, 0, 0, 1, 0, 0, 0], (31, 0, 7, 0))?;
-        test_and_set(&rt, &[1, 0, 0, 0, 0, 0, 0, 0, 0, 1], (35, 0, 6, 0))
+    fn counts_mean_nothing_until_the_bytes_are_there() -> Result<(), Fail> {
+        test_and_set(&[2, 0, 255, 255, 255, 255], (31, 0, 6, 0))?;
+        test_and_set(&[2, 0, 255, 255, 255, 255, 0, 255], (31, 0, 8, 0))?;
+        test_and_set(&[2, 0, 255, 255, 255, 255, 0, 77], (34, 0, 7, 0))?;
+        test_and_set(&[2, 0, 0, 0, 0, 0, 255, 255, 255, 255], (31, 0, 10, 0))?;
+        test_and_set(&[2, 0, 0, 1, 0, 0, 0], (31, 0, 7, 0))?;
+        test_and_set(&[1, 0, 0, 0, 0, 0, 0, 0, 0, 1], (35, 0, 6, 0))
     }
 
     #[test]
-    fn the_order_of_causes(rt: HostRuntime) -> Result<(), Fail> {
-        test_and_set(&rt, &[2, 0, 1, 0, 0, 0, 1, 1, 0, 0, 0, 255], (36, 0, 0, 1))?;
+    fn the_order_of_causes() -> Result<(), Fail> {
+        test_and_set(&[2, 0, 1, 0, 0, 0, 1, 1, 0, 0, 0, 255], (36, 0, 0, 1))?;
+        test_and_set(&[2, 0, 1, 0, 0, 0, 0, 3, 0, 0, 0, 3, 4, 4], (36, 0, 3, 4))?;
+        test_and_set(&[2, 1, 1, 0, 0, 0, 0, 2, 0, 0, 0, 3, 4], (38, 0, 15, 0))?;
+        test_and_set(&[2, 1, 1, 0, 0, 0, 0, 1, 0, 0, 0, 255], (39, 1, 2, 0))?;
         test_and_set(
-            &rt,
-            &[2, 0, 1, 0, 0, 0, 0, 3, 0, 0, 0, 3, 4, 4],
-            (36, 0, 3, 4),
-        )?;
-        test_and_set(
-            &rt,
-            &[2, 1, 1, 0, 0, 0, 0, 2, 0, 0, 0, 3, 4],
-            (38, 0, 15, 0),
-        )?;
-        test_and_set(&rt, &[2, 1, 1, 0, 0, 0, 0, 1, 0, 0, 0, 255], (39, 1, 2, 0))?;
-        test_and_set(
-            &rt,
             &[2, 1, 2, 0, 0, 0, 0, 3, 3, 0, 0, 0, 4, 5, 3],
             (39, 1, 2, 0),
         )?;
+        test_and_set(&[2, 0, 3, 0, 0, 0, 0, 3, 4, 1, 0, 0, 0, 255], (40, 0, 0, 1))?;
         test_and_set(
-            &rt,
-            &[2, 0, 3, 0, 0, 0, 0, 3, 4, 1, 0, 0, 0, 255],
-            (40, 0, 0, 1),
-        )?;
-        test_and_set(
-            &rt,
             &[2, 0, 6, 0, 0, 0, 0, 3, 4, 5, 3, 4, 1, 0, 0, 0, 255],
             (40, 0, 0, 1),
         )
