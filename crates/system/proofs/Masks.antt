@@ -13,10 +13,10 @@ use Rattle.system.specs.Masks.{bit, unless, PilesAreUnions, HighBitsDoNothing}
 pub bit_shifted : (m k : ℕ) → eqb (bit_and (m / 2 ^ k) 1) 1 ≡ bit m k
 bit_shifted m k = ap (λ n. eqb n 1) (and_mask (m / 2 ^ k) 1)
 
--- A mask of 64 bits has none beyond them.
-pub bit_beyond : (m k : ℕ) → m < 2 ^ 64 → 64 ≤ k → bit m k ≡ false
-bit_beyond m k h l =
-    let p : 2 ^ 64 ≤ 2 ^ k = pow_mono l in
+-- A mask of w bits has none beyond them.
+pub bit_beyond : (w m k : ℕ) → m < 2 ^ w → w ≤ k → bit m k ≡ false
+bit_beyond w m k h l =
+    let p : 2 ^ w ≤ 2 ^ k = pow_mono l in
     let z : m / 2 ^ k ≡ 0 = div-eq_of_lt (let lt : m < 2 ^ k = omega arith in lt) in
     ap (λ n. eqb (n % 2) 1) z
 

@@ -9,15 +9,15 @@ mod mask;
 mod questions;
 
 pub use mask::{Mask, pile};
-pub use questions::{class_enabled, has_class, holder_mask, is_clash};
+pub use questions::{class_enabled, has_class, holder_mask, is_clash, waits};
 
 /// Where a process stands in a state.
-#[derive(Clone, Copy)]
+#[derive(Clone, Copy, Debug, PartialEq, Eq)]
 pub enum Region {
-    Idle,
-    Try,
-    Crit,
-    Exit,
+    Idle = 0,
+    Try = 1,
+    Crit = 2,
+    Exit = 3,
 }
 
 impl Region {
@@ -25,12 +25,7 @@ impl Region {
     pub fn number(self) -> u8
         ensures { result ≡ region_number self }
     {
-        match self {
-            Region::Idle => 0,
-            Region::Try => 1,
-            Region::Crit => 2,
-            Region::Exit => 3,
-        }
+        self as u8
     }
 }
 

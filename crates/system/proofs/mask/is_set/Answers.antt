@@ -8,4 +8,4 @@ returns-then-command-lt64 c = ap (λ b. eqb b 1) c.bit_of.ensures ∙ bit_shifte
 
 pub returns-else-command-lt64 : goal.returns-else-command-lt64
 returns-else-command-lt64 c =
-    le-ltb c.args.command 64 c.if-command-lt64.false ∙ sym (bit_beyond c.args.mask c.args.command c.ranges.mask.fits c.if-command-lt64.false)
+    le-ltb c.args.command 64 c.if-command-lt64.false ∙ sym (bit_beyond 64 c.args.mask c.args.command c.ranges.mask.fits c.if-command-lt64.false)
