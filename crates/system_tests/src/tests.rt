@@ -20,10 +20,17 @@ const CLASSED: [Option<u8>; 3] = [None, Some(0), Some(0)];
 const REGIONS: [Region; 3] = [Region::Idle, Region::Try, Region::Crit];
 
 fn shaped(processes: u8, classes: u8, commands: u8, states: u32) -> Result<Shape, Fail> {
-    match Shape::new(processes, classes, commands, states, 0) {
-        Some(shape) => Ok(shape),
-        None => Err(Fail::new("shape")),
-    }
+    Ok(Shape::new(processes, classes, commands, states, 0).ok_or("shape")?)
+}
+
+// That lock as a table.
+fn cycle() -> Result<Table<'static>, Fail> {
+    Ok(Table {
+        shape: shaped(1, 1, 3, 3)?,
+        successors: &SUCCESSORS,
+        classed: &CLASSED,
+        regions: &REGIONS,
+    })
 }
 
 // Where command k leads from state k.
@@ -61,12 +68,7 @@ fn regions<S: System>(s: &S, process: u8) -> (u8, u8, u8) {
 
 #[test]
 fn a_table_answers_its_entries(rt: HostRuntime) -> Result<(), Fail> {
-    let lock = Table {
-        shape: shaped(1, 1, 3, 3)?,
-        successors: &SUCCESSORS,
-        classed: &CLASSED,
-        regions: &REGIONS,
-    };
+    let lock = cycle()?;
     assert!(rt; lock.is_well_formed());
     assert_eq!(rt;
         (lock.processes(), lock.classes(), lock.commands()),
@@ -84,12 +86,7 @@ fn a_table_answers_its_entries(rt: HostRuntime) -> Result<(), Fail> {
 
 #[test]
 fn out_of_range_there_is_nothing(rt: HostRuntime) -> Result<(), Fail> {
-    let lock = Table {
-        shape: shaped(1, 1, 3, 3)?,
-        successors: &SUCCESSORS,
-        classed: &CLASSED,
-        regions: &REGIONS,
-    };
+    let lock = cycle()?;
     assert_eq!(rt;
         (
             lock.successor(3, 0),
@@ -192,12 +189,7 @@ fn arrays_that_are_ill_formed_are_told(rt: HostRuntime) -> Result<(), Fail> {
 
 #[test]
 fn a_mask_disables_its_commands(rt: HostRuntime) -> Result<(), Fail> {
-    let inner = Table {
-        shape: shaped(1, 1, 3, 3)?,
-        successors: &SUCCESSORS,
-        classed: &CLASSED,
-        regions: &REGIONS,
-    };
+    let inner = cycle()?;
     assert_eq!(rt;
         steps(&Mask { inner, mask: 0 }),
         (Some(1), Some(2), Some(0))
@@ -220,12 +212,7 @@ fn a_mask_disables_its_commands(rt: HostRuntime) -> Result<(), Fail> {
 
 #[test]
 fn a_mask_disables_a_class_and_keeps_the_rest(rt: HostRuntime) -> Result<(), Fail> {
-    let inner = Table {
-        shape: shaped(1, 1, 3, 3)?,
-        successors: &SUCCESSORS,
-        classed: &CLASSED,
-        regions: &REGIONS,
-    };
+    let inner = cycle()?;
     let m = Mask { inner, mask: 2 };
     assert_eq!(rt; enabled(&inner, 0), (false, true, true));
     assert_eq!(rt; enabled(&m, 0), (false, false, true));

@@ -8,7 +8,7 @@ use Rattle.system.specs.declared.Region.TheVariants.{Idle}
 use Rattle.table.specs.declared.shape.Shape.{Shape}
 use Rattle.table.specs.Tables.{cell, if_below, table_system}
 
-if_below_some : (n : ℕ) (o : Option ℕ) (t : ℕ) → if_below (λ u. u) n o ≡ Some t → (o ≡ Some t) × (t < n)
+if_below_some : (n : ℕ) (o : Option ℕ) (t : ℕ) → if_below n o ≡ Some t → (o ≡ Some t) × (t < n)
 if_below_some n (Some u) t e = by (nat_lt u n) refl e
   where
     by : (b : Bool) → nat_lt u n ≡ b → cond b (Some u) None ≡ Some t → (Some u ≡ Some t) × (t < n)

@@ -2,7 +2,7 @@
 #![tactic(auto)]
 
 ghost use Rattle.std.specs.Prelude.{◌≡◌, ℕ, ◌+◌, ◌*◌, ◌<◌, ◌≤◌, Some, None, Decides, nat_lt};
-ghost use Rattle.table.specs.Tables.{cell, if_below, EachBelow, RightLengths, WellFormed, table_system};
+ghost use Rattle.table.specs.Tables.{cell, RightLengths, WellFormed, table_system};
 ghost use Rattle.table.specs.Laws.{table_lawful};
 
 mod arrays;
@@ -11,44 +11,6 @@ mod shape;
 pub use arrays::Table;
 pub use shape::Shape;
 use system::{Region, System};
-
-// What an entry holds: a number that can be held against a bound.
-trait Number: Copy {
-    ghost number: { Self → ℕ };
-
-    fn is_below(self, bound: Self) -> bool
-        ensures { result ≡ nat_lt (number self) (number bound) };
-}
-
-impl Number for u8 {
-    ghost number = { λ n. n };
-
-    fn is_below(self, bound: u8) -> bool {
-        self < bound
-    }
-}
-
-impl Number for u32 {
-    ghost number = { λ n. n };
-
-    fn is_below(self, bound: u32) -> bool {
-        self < bound
-    }
-}
-
-// Whether every number in the list is below `bound`.
-fn each_below<N: Number>(list: &[Option<N>], bound: N) -> bool
-    ensures { Decides result (EachBelow N.number list.now (N.number bound)) }
-{
-    for e in list {
-        if let Some(n) = *e {
-            if !n.is_below(bound) {
-                return false;
-            }
-        }
-    }
-    true
-}
 
 // Whether the arrays have one entry for each question.
 fn right_lengths(table: &Table) -> bool
@@ -68,17 +30,7 @@ fn cell_at<T: Copy>(list: &[T], row: u32, rows: u32, column: u8, columns: u8, mi
         return missing;
     }
     let i = row as usize * columns as usize + column as usize;
-    if i < list.len() { list[i] } else { missing }
-}
-
-// The entry itself where its number is below `bound`, else none.
-fn kept_below<N: Number>(entry: Option<N>, bound: N) -> Option<N>
-    ensures { result ≡ if_below N.number (N.number bound) entry }
-{
-    match entry {
-        Some(n) if n.is_below(bound) => Some(n),
-        _ => None,
-    }
+    list.get(i).copied().unwrap_or(missing)
 }
 
 impl<'a> Table<'a> {
@@ -86,13 +38,14 @@ impl<'a> Table<'a> {
     pub fn is_well_formed(&self) -> bool
         ensures { Decides result (WellFormed self.now.shape self.now.successors.now self.now.classed.now self.now.regions.now) }
     {
-        if !right_lengths(self) {
-            return false;
-        }
-        if !each_below(self.successors, self.shape.states) {
-            return false;
-        }
-        each_below(self.classed, self.shape.classes)
+        let Shape {
+            states,
+            classes,
+            ..
+        } = self.shape;
+        right_lengths(self)
+            && self.successors.iter().all(|t| t.is_none_or(|t| t < states))
+            && self.classed.iter().all(|j| j.is_none_or(|j| j < classes))
     }
 }
 
@@ -129,13 +82,13 @@ impl<'a> System for Table<'a> {
             command,
             self.shape.commands,
             None,
-        );
-        kept_below(t, self.shape.states)
+        )?;
+        (t < self.shape.states).then_some(t)
     }
 
     fn class_of(&self, command: u8) -> Option<u8> {
-        let j = cell_at(self.classed, 0, 1, command, self.shape.commands, None);
-        kept_below(j, self.shape.classes)
+        let j = cell_at(self.classed, 0, 1, command, self.shape.commands, None)?;
+        (j < self.shape.classes).then_some(j)
     }
 
     fn region(&self, state: u32, process: u8) -> Region {
