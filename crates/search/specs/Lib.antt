@@ -1,1 +1,2 @@
 pub mod Shortages
+pub mod Loans
