@@ -78,7 +78,8 @@ digit_flip (suc (suc x)) h = absurd (let f : ⊥ = omega arith in f)
 digit_one : (x : ℕ) → eqb x 1 ≡ true → x ≡ 1
 digit_one x e = eqb-true x 1 e
 
-bit_flip : (m j : ℕ) → j < 16 → bit (bit_xor m 65535) j ≡ not (bit m j)
+-- A bit of the other ones of sixteen.
+pub bit_flip : (m j : ℕ) → j < 16 → bit (bit_xor m 65535) j ≡ not (bit m j)
 bit_flip m j h =
     ap (λ n. eqb (n % 2) 1) (xor_shr m 65535 j) ∙ ap (λ n. eqb n 1) (xor_mod (m / 2 ^ j) (65535 / 2 ^ j) 1)
     ∙ ap (λ n. eqb (bit_xor ((m / 2 ^ j) % 2) n) 1) (digit_one (65535 / 2 ^ j % 2) (bit_full j h))

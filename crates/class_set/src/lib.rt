@@ -2,6 +2,7 @@
 #![tactic(auto)]
 
 ghost use Rattle.std.specs.Prelude.{◌≡◌, ℕ, ◌<◌, ◌^◌, true, false, not, ◌&&◌, ◌||◌, ◌==◌, Decides, nat_lt};
+ghost use Rattle.std.specs.Int.Bits.{bit_or, bit_xor};
 ghost use Rattle.system.specs.Masks.{bit};
 ghost use Rattle.system.specs.Justice.{ClassEnabled};
 ghost use Rattle.system.specs.Tests.{is_class, enables, class_enabled_lem};
@@ -30,7 +31,8 @@ fn mask_of(class: Option<u8>) -> u16
 impl ClassSet {
     /// No class.
     pub fn none() -> ClassSet
-        ensures { (j : ℕ) → bit result.bits j ≡ false }
+        ensures classes { (j : ℕ) → bit result.bits j ≡ false }
+        ensures bits { result.bits ≡ 0 }
     {
         ClassSet { bits: 0 }
     }
@@ -69,7 +71,8 @@ impl ClassSet {
 
     /// The classes in either set.
     pub fn union(self, other: ClassSet) -> ClassSet
-        ensures { (j : ℕ) → bit result.bits j ≡ (bit self.bits j || bit other.bits j) }
+        ensures classes { (j : ℕ) → bit result.bits j ≡ (bit self.bits j || bit other.bits j) }
+        ensures bits { result.bits ≡ bit_or self.bits other.bits }
     {
         ClassSet {
             bits: self.bits | other.bits,
@@ -87,7 +90,8 @@ impl ClassSet {
 
     /// The classes below 16 that are not in the set.
     pub fn complement(self) -> ClassSet
-        ensures { (j : ℕ) → bit result.bits j ≡ (nat_lt j 16 && not (bit self.bits j)) }
+        ensures classes { (j : ℕ) → bit result.bits j ≡ (nat_lt j 16 && not (bit self.bits j)) }
+        ensures bits { result.bits ≡ bit_xor self.bits 65535 }
     {
         ClassSet {
             bits: self.bits ^ 0xFFFF,

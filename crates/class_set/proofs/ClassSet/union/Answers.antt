@@ -1,5 +1,5 @@
 use Rattle.system.proofs.Masks.{bit_or_lem}
 use Rattle.class_set.proofs.ClassSet.union.Goals as goal
 
-pub returns : goal.returns
-returns c = bit_or_lem c.args.self.bits c.args.other.bits
+pub returns-clause-classes : goal.returns-clause-classes
+returns-clause-classes c = bit_or_lem c.args.self.bits c.args.other.bits
