@@ -60,22 +60,41 @@ impl RunRefusal {
     pub fn place(&self) -> Place
         ensures { result ≡ placed self.now }
     {
-        let (process, index, command) = match *self {
-            RunRefusal::WrongLength { at } => (0, at, 0),
-            RunRefusal::WrongKind => (0, 0, 0),
-            RunRefusal::WrongProcess => (0, 1, 0),
-            RunRefusal::WrongStep { at } => (0, at, 0),
-            RunRefusal::WrongLoopCount { at } => (0, at, 0),
-            RunRefusal::StepDisabled { step, command } => (0, step, command),
-            RunRefusal::NoClash { state } => (0, state as usize, 0),
-            RunRefusal::LoopOpen { state } => (0, state as usize, 0),
-            RunRefusal::NotWaiting { process, state } => (process, state as usize, 0),
-            RunRefusal::ClassNeglected { class } => (0, 0, class),
+        let nowhere = Place {
+            process: 0,
+            index: 0,
+            command: 0,
         };
-        Place {
-            process,
-            index,
-            command,
+        match *self {
+            RunRefusal::WrongLength { at }
+            | RunRefusal::WrongStep { at }
+            | RunRefusal::WrongLoopCount { at } => Place {
+                index: at,
+                ..nowhere
+            },
+            RunRefusal::WrongKind => nowhere,
+            RunRefusal::WrongProcess => Place {
+                index: 1,
+                ..nowhere
+            },
+            RunRefusal::StepDisabled { step, command } => Place {
+                index: step,
+                command,
+                ..nowhere
+            },
+            RunRefusal::NoClash { state } | RunRefusal::LoopOpen { state } => Place {
+                index: state as usize,
+                ..nowhere
+            },
+            RunRefusal::NotWaiting { process, state } => Place {
+                process,
+                index: state as usize,
+                ..nowhere
+            },
+            RunRefusal::ClassNeglected { class } => Place {
+                command: class,
+                ..nowhere
+            },
         }
     }
 }
