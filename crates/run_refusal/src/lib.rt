@@ -5,7 +5,7 @@ ghost use Rattle.std.specs.Prelude.{◌≡◌};
 ghost use Rattle.run_refusal.specs.Refusals.{number, placed};
 
 /// Where a fault lies; parts that the fault does not name are 0.
-#[derive(Clone, Copy)]
+#[derive(Clone, Copy, Debug, Default, PartialEq, Eq)]
 pub struct Place {
     pub process: u8,
     pub index: usize,
@@ -13,7 +13,7 @@ pub struct Place {
 }
 
 /// Why bytes are no bad run of a system.
-#[derive(Clone, Copy)]
+#[derive(Clone, Copy, Debug, PartialEq, Eq)]
 pub enum RunRefusal {
     /// 31: a field is missing or cut, or bytes follow the last field.
     WrongLength { at: usize },
@@ -42,6 +42,7 @@ impl RunRefusal {
     pub fn number(&self) -> u8
         ensures { result ≡ number self.now }
     {
+        // Kept as a match: the variants hold values, so no cast tells their numbers.
         match self {
             RunRefusal::WrongLength { .. } => 31,
             RunRefusal::WrongKind => 32,
@@ -60,11 +61,7 @@ impl RunRefusal {
     pub fn place(&self) -> Place
         ensures { result ≡ placed self.now }
     {
-        let nowhere = Place {
-            process: 0,
-            index: 0,
-            command: 0,
-        };
+        let nowhere = Place::default();
         match *self {
             RunRefusal::WrongLength { at }
             | RunRefusal::WrongStep { at }
