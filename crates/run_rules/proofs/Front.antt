@@ -1,5 +1,5 @@
 -- Reading refuses by the first fault, and what it reads has none.
-use Rattle.std.proofs.Common.{◌≡◌, ℕ, zero, suc, ◌+◌, ◌-◌, ◌<◌, ◌≤◌, min, true, false, cond, eqb, ltb, leb, ◌⊎◌, List, [], ◌∷◌, length, get_or, take, drop, Some, None, Ok, Err, Option, Result, sym, refl, ap, ◌∙◌, subst, inl, inr, arith, MatchResult}
+use Rattle.std.proofs.Common.{◌≡◌, ℕ, zero, suc, ◌+◌, ◌-◌, ◌<◌, ◌≤◌, min, Bool, true, false, not, cond, eqb, ltb, leb, ◌⊎◌, List, [], ◌∷◌, length, get_or, take, drop, Some, None, Ok, Err, Option, Result, sym, refl, ap, ◌∙◌, subst, inl, inr, arith, MatchResult}
 use Rattle.std.proofs.lemmas.List.{length-take, length-drop, get_or-take, get_or-drop}
 use Rattle.std.proofs.lemmas.Bool.{cond_both}
 use Rattle.std.proofs.lemmas.Bool.Decides.{nat_tests}
@@ -22,12 +22,18 @@ abbrev NoStep : ℕ → ℕ → List ℕ → Option ℕ → Type 0
 NoStep K k xs (Some i) = (j : ℕ) × (i ≡ k + j) × (j < length xs) × (is_step_lem K (get_or xs j 0) ≡ false) × ((l : ℕ) → l < j → is_step_lem K (get_or xs l 0) ≡ true)
 NoStep K k xs None = (l : ℕ) → l < length xs → is_step_lem K (get_or xs l 0) ≡ true
 
+not_not : (b c : Bool) → not b ≡ not c → b ≡ c
+not_not true true e = refl
+not_not true false e = sym e
+not_not false true e = sym e
+not_not false false e = refl
+
 no_step_told : (K k : ℕ) (xs : List ℕ) → NoStep K k xs (no_step K k xs)
 no_step_told K k [] = λ l h. absurd (let f : ⊥ = omega arith in f)
 no_step_told K k (b ∷ xs) =
-    cond_both (is_step_lem K b) (no_step K (k + 1) xs) (Some k) (NoStep K k (b ∷ xs))
-    (λ e. later e (no_step K (k + 1) xs) (no_step_told K (k + 1) xs))
-    (λ e. (0, omega arith, omega arith, e, λ l h. absurd (let f : ⊥ = omega arith in f)))
+    cond_both (not (is_step_lem K b)) (Some k) (no_step K (k + 1) xs) (NoStep K k (b ∷ xs))
+    (λ e. (0, omega arith, omega arith, not_not (is_step_lem K b) false e, λ l h. absurd (let f : ⊥ = omega arith in f)))
+    (λ e. later (not_not (is_step_lem K b) true e) (no_step K (k + 1) xs) (no_step_told K (k + 1) xs))
   where
     each : is_step_lem K b ≡ true → (j : ℕ) → ((l : ℕ) → l < j → is_step_lem K (get_or xs l 0) ≡ true) → (l : ℕ) → l < suc j → is_step_lem K (get_or (b ∷ xs) l 0) ≡ true
     each e j h zero q = e

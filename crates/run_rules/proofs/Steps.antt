@@ -3,13 +3,6 @@ use Rattle.std.proofs.Common.{◌≡◌, ℕ, ◌+◌, ◌-◌, ◌<◌, ◌≤�
 use Rattle.std.proofs.lemmas.List.{at_drop_more, take_all, length-drop}
 use Rattle.run_rules.specs.Reading.{is_step_lem, no_step, steps_or, steps_at_lem}
 
-module _ (K : ℕ) (xs : List ℕ) (i : ℕ) (within : i < length xs) where
-  pub no_step_here : is_step_lem K (get_or xs i 0) ≡ false → no_step K i (drop i xs) ≡ Some i
-  no_step_here e = at_drop_more (no_step K i) xs i 0 within ∙ ap (λ b. cond b (no_step K (i + 1) (drop (i + 1) xs)) (Some i)) e
-
-  pub no_step_on : is_step_lem K (get_or xs i 0) ≡ true → no_step K i (drop i xs) ≡ no_step K (i + 1) (drop (i + 1) xs)
-  no_step_on e = at_drop_more (no_step K i) xs i 0 within ∙ ap (λ b. cond b (no_step K (i + 1) (drop (i + 1) xs)) (Some i)) e
-
 -- as many bytes from `at` on as there are, and n at most
 part : (bs : List ℕ) (at n m : ℕ) → at ≤ length bs → ((m ≡ n) × (m ≤ length bs - at)) ⊎ ((m ≡ length bs - at) × (m ≤ n)) → take ((at + m) - at) (drop at bs) ≡ take n (drop at bs)
 part bs at n m h (inl e) = ap (λ k. take k (drop at bs)) (let q : (at + m) - at ≡ n = omega arith in q)

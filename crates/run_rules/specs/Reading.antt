@@ -1,5 +1,6 @@
 -- The fields of a run's bytes, read from the front, as a function that computes. Assumes nothing.
-use Rattle.std.specs.Prelude.{ℕ, ◌+◌, Bool, cond, ◌||◌, List, [], ◌∷◌, length, take, drop, Some, None, Ok, Err, Option, Result, ◌==◌, nat_le, nat_lt, slice_index}
+use Rattle.std.specs.Prelude.{ℕ, ◌+◌, Bool, cond, not, ◌||◌, List, [], ◌∷◌, length, take, drop, Some, None, Ok, Err, Option, Result, ◌==◌, nat_le, nat_lt, slice_index}
+use Rattle.std.specs.List.{position_from}
 use Rattle.byte_numbers.specs.Numbers.{number_at}
 use Rattle.system.specs.Transitions.{Transitions}
 use Rattle.run_rules.specs.declared.Kind.{Kind}
@@ -16,10 +17,12 @@ and_then (Err e) f = Err e
 abbrev pub is_step_lem : ℕ → ℕ → Bool
 is_step_lem K b = b == 255 || nat_lt b K
 
+-- The kind of a kind byte.
+abbrev pub kind_of : ℕ → Result Kind RunRefusal
+kind_of b = cond (b == 1) (Ok Clash) (cond (b == 2) (Ok Lockout) (Err WrongKind))
+
 abbrev pub kind_at : List ℕ → Result Kind RunRefusal
-kind_at bytes =
-    cond (length bytes == 0) (Err (WrongLength 0))
-    (cond (slice_index bytes 0 == 1) (Ok Clash) (cond (slice_index bytes 0 == 2) (Ok Lockout) (Err WrongKind)))
+kind_at bytes = cond (length bytes == 0) (Err (WrongLength 0)) (kind_of (slice_index bytes 0))
 
 -- A clash has process 0, a lockout one below P.
 abbrev pub is_process_lem : ℕ → Kind → ℕ → Bool
@@ -45,8 +48,7 @@ loop_count_at_lem kind bytes at =
 
 -- The index of the first byte that is no step, the list beginning at index i.
 abbrev pub no_step : ℕ → ℕ → List ℕ → Option ℕ
-no_step K i [] = None
-no_step K i (b ∷ bs) = cond (is_step_lem K b) (no_step K (i + 1) bs) (Some i)
+no_step K i bytes = position_from (λ b. not (is_step_lem K b)) i bytes
 
 abbrev pub steps_or : Option ℕ → List ℕ → ℕ → ℕ → Result (List ℕ) RunRefusal
 steps_or (Some i) bytes at n = Err (WrongStep (at + i))

@@ -1,13 +1,32 @@
 //! Runs as bytes: which bytes are a bad run of a system, and which refusal is right for all others.
 #![tactic(auto)]
 
+ghost use Rattle.std.specs.Prelude.{◌≡◌};
+ghost use Rattle.run_rules.specs.Reading.{kind_of};
 ghost use Rattle.run_rules.specs.Claims.{OneRightRefusal, BadBytesAreNotRefused, BadBytesCondemn};
 
+use run_refusal::RunRefusal;
+
 /// The kinds of bad runs.
-#[derive(Clone, Copy)]
+#[derive(Clone, Copy, Debug, PartialEq, Eq)]
 pub enum Kind {
     Clash,
     Lockout,
+}
+
+/// The kind of a kind byte.
+impl TryFrom<u8> for Kind {
+    type Error = RunRefusal;
+
+    ghost try_from_gives = { λ byte r. r ≡ kind_of byte };
+
+    fn try_from(byte: u8) -> Result<Self, RunRefusal> {
+        match byte {
+            1 => Ok(Kind::Clash),
+            2 => Ok(Kind::Lockout),
+            _ => Err(RunRefusal::WrongKind),
+        }
+    }
 }
 
 /// At most one refusal is right for given bytes.
