@@ -1,6 +1,7 @@
 //! Reading a run's fields, from the front; the first fault decides.
-ghost use Rattle.std.specs.Prelude.{◌≡◌, ◌+◌, ◌<◌, ◌≤◌, length, Some, None, Ok, Err};
-ghost use Rattle.run_rules.specs.Reading.{is_step_lem, no_step, count_at, kind_at, is_process_lem, process_at_lem, is_loop_count_lem, loop_count_at_lem, steps_at_lem, fields, read_run_lem};
+ghost use Rattle.std.specs.Prelude.{◌≡◌, ◌+◌, ◌<◌, ◌≤◌, length, if◌then◌else◌, nat_lt, Ok, Err, IfSome, IfOk, OnOk};
+ghost use Rattle.run_refusal.specs.declared.RunRefusal.TheVariants.{WrongLength};
+ghost use Rattle.run_rules.specs.Reading.{is_step_lem, no_step, byte_at, count_at, is_process_lem, process_at_lem, is_loop_count_lem, loop_count_at_lem, steps_at_lem, fields, read_run_lem};
 
 use byte_numbers::number_at;
 use run_refusal::RunRefusal;
@@ -10,19 +11,6 @@ use system::System;
 /// The byte of the rest step.
 pub(crate) const REST: u8 = 255;
 
-fn kind_at(bytes: &[u8]) -> Result<Kind, RunRefusal>
-    ensures { result ≡ kind_at bytes.now }
-{
-    if bytes.len() == 0 {
-        return Err(RunRefusal::WrongLength { at: 0 });
-    }
-    match bytes[0] {
-        1 => Ok(Kind::Clash),
-        2 => Ok(Kind::Lockout),
-        _ => Err(RunRefusal::WrongKind),
-    }
-}
-
 /// Whether a run of this kind may be of this process.
 fn is_process(process: u8, kind: Kind, processes: u8) -> bool
     ensures { result ≡ is_process_lem processes kind process }
@@ -30,29 +18,6 @@ fn is_process(process: u8, kind: Kind, processes: u8) -> bool
     match kind {
         Kind::Clash => process == 0,
         Kind::Lockout => process < processes,
-    }
-}
-
-fn process_at(bytes: &[u8], kind: Kind, processes: u8) -> Result<u8, RunRefusal>
-    ensures { result ≡ process_at_lem processes kind bytes.now }
-{
-    if bytes.len() < 2 {
-        return Err(RunRefusal::WrongLength { at: 1 });
-    }
-    let process = bytes[1];
-    if is_process(process, kind, processes) {
-        Ok(process)
-    } else {
-        Err(RunRefusal::WrongProcess)
-    }
-}
-
-fn count_at(bytes: &[u8], at: usize) -> Result<usize, RunRefusal>
-    ensures { result ≡ count_at bytes.now at }
-{
-    match number_at(bytes, at) {
-        Some(count) => Ok(count as usize),
-        None => Err(RunRefusal::WrongLength { at }),
     }
 }
 
@@ -66,17 +31,6 @@ fn is_loop_count(count: usize, kind: Kind) -> bool
     }
 }
 
-fn loop_count_at(bytes: &[u8], at: usize, kind: Kind) -> Result<usize, RunRefusal>
-    ensures { result ≡ loop_count_at_lem kind bytes.now at }
-{
-    let count = count_at(bytes, at)?;
-    if is_loop_count(count, kind) {
-        Ok(count)
-    } else {
-        Err(RunRefusal::WrongLoopCount { at })
-    }
-}
-
 fn is_step(byte: u8, commands: u8) -> bool
     ensures { result ≡ is_step_lem commands byte }
 {
@@ -86,31 +40,101 @@ fn is_step(byte: u8, commands: u8) -> bool
 /// The index of the first byte that is no step.
 fn no_step(steps: &[u8], commands: u8) -> Option<usize>
     ensures same { result ≡ no_step commands 0 steps.now }
-    ensures within { elim result [ Some i ↦ i < length steps.now | None ↦ Unit {0} ] }
+    ensures within { IfSome result (λ i. i < length steps.now) }
 {
-    for (i, byte) in steps.iter().enumerate() {
-        if !is_step(*byte, commands) {
-            return Some(i);
-        }
-    }
-    None
+    steps.iter().position(|byte| !is_step(*byte, commands))
 }
 
-/// The `count` step bytes from `at` on. A count means nothing until the bytes are there.
-fn steps_at(bytes: &[u8], at: usize, count: usize, commands: u8) -> Result<&[u8], RunRefusal>
-    requires { at ≤ length bytes.now }
-    ensures same { elim result [ Ok steps ↦ Ok steps.now ≡ steps_at_lem commands bytes.now at count | Err e ↦ Err e ≡ steps_at_lem commands bytes.now at count ] }
-    ensures fits { elim result [ Ok steps ↦ (length steps.now ≡ count) × (at + count ≤ length bytes.now) | Err e ↦ Unit {0} ] }
-{
-    let there = count.min(bytes.len() - at);
-    let steps = &bytes[at..at + there];
-    if let Some(i) = no_step(steps, commands) {
-        return Err(RunRefusal::WrongStep { at: at + i });
+/// The bytes of a run, read up to the index `at`.
+#[derive(Drop)]
+struct Cursor<'a> {
+    bytes: &'a [u8],
+    at: usize,
+    ghost within: { at ≤ length bytes.now },
+}
+
+impl<'a> Cursor<'a> {
+    fn byte(&mut self) -> Result<u8, RunRefusal>
+        ensures read { result ≡ byte_at self.old.bytes.now self.old.at }
+        ensures bytes { self.new.bytes ≡ self.old.bytes }
+        ensures at { OnOk result (self.new.at ≡ self.old.at + 1) }
+    {
+        let byte = self
+            .bytes
+            .get(self.at)
+            .ok_or(RunRefusal::WrongLength { at: self.at })?;
+        self.at += 1;
+        Ok(*byte)
     }
-    if there < count {
-        return Err(RunRefusal::WrongLength { at: bytes.len() });
+
+    fn process(&mut self, kind: Kind, processes: u8) -> Result<u8, RunRefusal>
+        requires { self.old.at ≡ 1 }
+        ensures read { result ≡ process_at_lem processes kind self.old.bytes.now }
+        ensures bytes { self.new.bytes ≡ self.old.bytes }
+        ensures at { OnOk result (self.new.at ≡ 2) }
+    {
+        let process = self.byte()?;
+        if is_process(process, kind, processes) {
+            Ok(process)
+        } else {
+            Err(RunRefusal::WrongProcess)
+        }
     }
-    Ok(steps)
+
+    fn count(&mut self) -> Result<usize, RunRefusal>
+        ensures read { result ≡ count_at self.old.bytes.now self.old.at }
+        ensures bytes { self.new.bytes ≡ self.old.bytes }
+        ensures at { OnOk result (self.new.at ≡ self.old.at + 4) }
+    {
+        let count = number_at(self.bytes, self.at).ok_or(RunRefusal::WrongLength { at: self.at })?;
+        self.at += 4;
+        Ok(count as usize)
+    }
+
+    fn loop_count(&mut self, kind: Kind) -> Result<usize, RunRefusal>
+        ensures read { result ≡ loop_count_at_lem kind self.old.bytes.now self.old.at }
+        ensures bytes { self.new.bytes ≡ self.old.bytes }
+        ensures at { OnOk result (self.new.at ≡ self.old.at + 4) }
+    {
+        let at = self.at;
+        let count = self.count()?;
+        if is_loop_count(count, kind) {
+            Ok(count)
+        } else {
+            Err(RunRefusal::WrongLoopCount { at })
+        }
+    }
+
+    /// The next `count` step bytes. A count means nothing until the bytes are there.
+    fn steps(&mut self, count: usize, commands: u8) -> Result<&'a [u8], RunRefusal>
+        ensures read { elim result [ Ok steps ↦ Ok steps.now ≡ steps_at_lem commands self.old.bytes.now self.old.at count | Err e ↦ Err e ≡ steps_at_lem commands self.old.bytes.now self.old.at count ] }
+        ensures bytes { self.new.bytes ≡ self.old.bytes }
+        ensures at { IfOk result (λ steps. (length steps.now ≡ count) × (self.new.at ≡ self.old.at + count)) }
+    {
+        let rest = &self.bytes[self.at..];
+        let steps = &rest[..count.min(rest.len())];
+        if let Some(i) = no_step(steps, commands) {
+            return Err(RunRefusal::WrongStep { at: self.at + i });
+        }
+        if steps.len() < count {
+            return Err(RunRefusal::WrongLength {
+                at: self.bytes.len(),
+            });
+        }
+        self.at += count;
+        Ok(steps)
+    }
+
+    /// That no bytes are left.
+    fn end(&self) -> Result<(), RunRefusal>
+        ensures { result ≡ (if nat_lt self.now.at (length self.now.bytes.now) then Err (WrongLength self.now.at) else Ok tt) }
+    {
+        if self.at < self.bytes.len() {
+            Err(RunRefusal::WrongLength { at: self.at })
+        } else {
+            Ok(())
+        }
+    }
 }
 
 /// A run as it is read: its steps are bytes yet.
@@ -126,16 +150,14 @@ pub(crate) fn read_run<'a, S: System>(system: &S, bytes: &'a [u8]) -> Result<Run
     ensures same { elim result [ Ok run ↦ read_run_lem (S.meaning system.now).steps bytes.now ≡ Ok (fields run.kind run.process run.stem.now run.cycle.now) | Err e ↦ read_run_lem (S.meaning system.now).steps bytes.now ≡ Err e ] }
     ensures fits { elim result [ Ok run ↦ length run.stem.now + length run.cycle.now ≤ length bytes.now | Err e ↦ Unit {0} ] }
 {
-    let kind = kind_at(bytes)?;
-    let process = process_at(bytes, kind, system.processes())?;
-    let stem_count = count_at(bytes, 2)?;
-    let stem = steps_at(bytes, 6, stem_count, system.commands())?;
-    let loop_count = loop_count_at(bytes, 6 + stem_count, kind)?;
-    let cycle = steps_at(bytes, 10 + stem_count, loop_count, system.commands())?;
-    let end = 10 + stem_count + loop_count;
-    if end < bytes.len() {
-        return Err(RunRefusal::WrongLength { at: end });
-    }
+    let mut cursor = Cursor { bytes, at: 0 };
+    let kind = Kind::try_from(cursor.byte()?)?;
+    let process = cursor.process(kind, system.processes())?;
+    let stem_count = cursor.count()?;
+    let stem = cursor.steps(stem_count, system.commands())?;
+    let loop_count = cursor.loop_count(kind)?;
+    let cycle = cursor.steps(loop_count, system.commands())?;
+    cursor.end()?;
     Ok(Run {
         kind,
         process,

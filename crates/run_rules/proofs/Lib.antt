@@ -1,6 +1,5 @@
 pub mod Order
 pub mod Clean
-pub mod Steps
 pub mod Front
 pub mod Paths
 pub mod Judged

@@ -17,6 +17,10 @@ and_then (Err e) f = Err e
 abbrev pub is_step_lem : ℕ → ℕ → Bool
 is_step_lem K b = b == 255 || nat_lt b K
 
+-- The byte at an index.
+abbrev pub byte_at : List ℕ → ℕ → Result ℕ RunRefusal
+byte_at bytes at = cond (nat_lt at (length bytes)) (Ok (slice_index bytes at)) (Err (WrongLength at))
+
 -- The kind of a kind byte.
 abbrev pub kind_of : ℕ → Result Kind RunRefusal
 kind_of b = cond (b == 1) (Ok Clash) (cond (b == 2) (Ok Lockout) (Err WrongKind))
