@@ -8,6 +8,7 @@ ghost use Rattle.run_rules.specs.Claims.{Condemned};
 ghost use Rattle.run_rules.specs.Judging.{run_answer};
 
 mod judging;
+mod part;
 mod reading;
 
 use judging::judge;

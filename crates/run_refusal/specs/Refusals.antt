@@ -1,11 +1,9 @@
 -- What each refusal of a run says: its number and its place; and the order of the causes. Assumes nothing.
 use Rattle.std.specs.Prelude.{cond, List, [], ◌∷◌, ℕ, suc, ◌<◌, eqb}
-use Rattle.run_refusal.specs.declared.Place.{Place}
+use Rattle.place.specs.declared.Place.{Place}
+use Rattle.place.specs.Places.{place}
 use Rattle.run_refusal.specs.declared.RunRefusal.{RunRefusal}
 use Rattle.run_refusal.specs.declared.RunRefusal.TheVariants.{WrongLength, WrongKind, WrongProcess, WrongStep, WrongLoopCount, StepDisabled, NoClash, LoopOpen, NotWaiting, ClassNeglected}
-
-abbrev pub place : ℕ → ℕ → ℕ → Place
-place p i k = record { process = p; index = i; command = k }
 
 abbrev pub number : RunRefusal → ℕ
 number (WrongLength i) = 31

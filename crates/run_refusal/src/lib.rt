@@ -4,13 +4,7 @@
 ghost use Rattle.std.specs.Prelude.{◌≡◌};
 ghost use Rattle.run_refusal.specs.Refusals.{number, placed};
 
-/// Where a fault lies; parts that the fault does not name are 0.
-#[derive(Clone, Copy, Debug, Default, PartialEq, Eq)]
-pub struct Place {
-    pub process: u8,
-    pub index: usize,
-    pub command: u8,
-}
+pub use place::Place;
 
 /// Why bytes are no bad run of a system.
 #[derive(Clone, Copy, Debug, PartialEq, Eq)]
@@ -61,7 +55,7 @@ impl RunRefusal {
     pub fn place(&self) -> Place
         ensures { result ≡ placed self.now }
     {
-        let nowhere = Place::default();
+        let nowhere = Place::new(0, 0, 0);
         match *self {
             RunRefusal::WrongLength { at }
             | RunRefusal::WrongStep { at }

@@ -4,7 +4,8 @@ use Rattle.std.proofs.lemmas.Bool.{cases_lt}
 use Rattle.system.specs.Justice.{FairSystem, Lawful}
 use Rattle.run_refusal.specs.declared.RunRefusal.{RunRefusal}
 use Rattle.run_refusal.specs.declared.RunRefusal.TheVariants.{WrongLength, WrongKind, WrongProcess, WrongStep, WrongLoopCount, StepDisabled, NoClash, LoopOpen, NotWaiting, ClassNeglected}
-use Rattle.run_refusal.specs.Refusals.{number, placed, place}
+use Rattle.place.specs.Places.{place}
+use Rattle.run_refusal.specs.Refusals.{number, placed}
 use Rattle.run_rules.specs.Causes.{Cause}
 use Rattle.run_rules.specs.Layout.{stem_length, loop_length, end}
 use Rattle.run_rules.proofs.Order.{AheadBy}

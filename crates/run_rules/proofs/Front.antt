@@ -5,12 +5,13 @@ use Rattle.std.proofs.lemmas.Bool.{cond_both}
 use Rattle.std.proofs.lemmas.Bool.Decides.{nat_tests}
 use Rattle.system.specs.Justice.{FairSystem, Lawful}
 use Rattle.byte_numbers.specs.Numbers.{number_at}
-use Rattle.run_refusal.specs.declared.Place.{Place}
+use Rattle.place.specs.declared.Place.{Place}
 use Rattle.run_rules.specs.declared.Kind.{Kind}
 use Rattle.run_rules.specs.declared.Kind.TheVariants.{Clash, Lockout}
 use Rattle.run_refusal.specs.declared.RunRefusal.{RunRefusal}
 use Rattle.run_refusal.specs.declared.RunRefusal.TheVariants.{WrongLength, WrongKind, WrongProcess, WrongStep, WrongLoopCount}
-use Rattle.run_refusal.specs.Refusals.{number, placed, place}
+use Rattle.place.specs.Places.{place}
+use Rattle.run_refusal.specs.Refusals.{number, placed}
 use Rattle.run_rules.specs.Reading.{and_then, Fields, fields, is_step_lem, no_step, is_process_lem, is_loop_count_lem, kind_at, process_at_lem, count_at, loop_count_at_lem, steps_or, steps_at_lem, ended, read_run_lem}
 use Rattle.run_rules.specs.Causes.{Cause, RightRefusal, Field, StepAt}
 use Rattle.run_rules.specs.Layout.{stem_length, loop_length, end}

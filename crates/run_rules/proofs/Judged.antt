@@ -10,12 +10,13 @@ use Rattle.system.specs.Tests.{is_clash_lem}
 use Rattle.system.proofs.Decided.{is_clash_decides}
 use Rattle.lasso.specs.BadRuns.{LoopState, ClashRun, LockoutRun}
 use Rattle.lasso.proofs.Lasso.{walk_one}
-use Rattle.run_refusal.specs.declared.Place.{Place}
+use Rattle.place.specs.declared.Place.{Place}
 use Rattle.run_rules.specs.declared.Kind.{Kind}
 use Rattle.run_rules.specs.declared.Kind.TheVariants.{Clash, Lockout}
 use Rattle.run_refusal.specs.declared.RunRefusal.{RunRefusal}
 use Rattle.run_refusal.specs.declared.RunRefusal.TheVariants.{WrongLength, WrongKind, WrongProcess, WrongStep, WrongLoopCount, StepDisabled, NoClash, LoopOpen, NotWaiting, ClassNeglected}
-use Rattle.run_refusal.specs.Refusals.{number, placed, place}
+use Rattle.place.specs.Places.{place}
+use Rattle.run_refusal.specs.Refusals.{number, placed}
 use Rattle.run_rules.specs.Layout.{stem_length, loop_length, end, step_of, stem, cycle}
 use Rattle.run_rules.specs.Reading.{and_then, Fields, read_run_lem}
 use Rattle.run_rules.specs.Judging.{or_else, after, walked, least_idle, neglected, least, judged_loop, judged_clash, judged_lockout, judged_by, judged, run_answer}

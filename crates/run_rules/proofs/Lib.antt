@@ -6,4 +6,3 @@ pub mod Judged
 pub mod Encoding
 pub mod Accepted
 pub mod Walks
-pub mod Bits

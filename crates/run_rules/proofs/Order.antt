@@ -1,6 +1,6 @@
 -- The order of the causes is that of their numbers.
 use Rattle.std.proofs.Common.{◌≡◌, ℕ, ◌+◌, ◌<◌, ◌⊎◌, refl, inl, inr, arith}
-use Rattle.run_refusal.specs.declared.Place.{Place}
+use Rattle.place.specs.declared.Place.{Place}
 use Rattle.run_refusal.specs.declared.RunRefusal.{RunRefusal}
 use Rattle.run_refusal.specs.declared.RunRefusal.TheVariants.{WrongLength, WrongKind, WrongProcess, WrongStep, WrongLoopCount, StepDisabled, NoClash, LoopOpen, NotWaiting, ClassNeglected}
 use Rattle.run_refusal.specs.Refusals.{number, placed, order_of_causes, before, Earlier}

@@ -1,10 +1,15 @@
--- One turn of each loop over the steps of a walk: at the end, at a step that is not possible, and at one that is.
-use Rattle.std.proofs.Common.{◌≡◌, ℕ, zero, suc, ◌+◌, ◌-◌, ◌<◌, ◌≤◌, Bool, true, false, cond, ◌&&◌, List, length, get_or, drop, Some, None, Ok, Err, Option, sym, refl, ap, ◌∙◌, arith}
+-- What the loops over the steps of a part of a run gather.
+use Rattle.std.proofs.Common.{◌≡◌, ℕ, ◌+◌, ◌<◌, ◌≤◌, Bool, true, cond, ◌&&◌, List, [], ◌∷◌, fold, length, get_or, drop, Some, None, Ok, Err, Option, refl, ap, ◌∙◌}
+use Rattle.std.specs.List.{list_all}
+use Rattle.std.specs.Bool.{Decides}
+use Rattle.std.proofs.lemmas.Bool.Decides.{same_from_decides}
 use Rattle.std.proofs.lemmas.List.{at_drop_more, at_drop_all}
+use Rattle.system.specs.declared.Region.{Region}
+use Rattle.system.specs.declared.Region.TheVariants.{Idle, Try, Crit, Exit}
 use Rattle.system.specs.Transitions.{Transitions}
 use Rattle.system.specs.Justice.{FairSystem}
 use Rattle.run_refusal.specs.declared.RunRefusal.TheVariants.{StepDisabled}
-use Rattle.run_rules.specs.Judging.{or_else, after, walked, is_try, lower, least_idle, owed, neglected, least}
+use Rattle.run_rules.specs.Judging.{or_else, after, visits, walked, is_try, lower, least_idle, owed, neglected}
 
 -- What is left to walk after the first i steps, where the next leads to o.
 module _ (T : Transitions) (xs : List ℕ) (i s : ℕ) where
@@ -17,49 +22,39 @@ module _ (T : Transitions) (xs : List ℕ) (i s : ℕ) where
       at_drop_more (walked T s n) xs i 0 h
       ∙ ap (λ o. or_else o (λ t. walked T t (n + 1) (drop (i + 1) xs)) (Err (StepDisabled n (get_or xs i 0)))) e
 
-  pub idle_end : (p : ℕ) (held : Option ℕ) → length xs ≤ i → least_idle T p held s (drop i xs) ≡ held
-  idle_end p held h = at_drop_all (least_idle T p held s) xs i h
+-- Whether a process waits, by its region.
+pub try_told : (b : Bool) (r : Region) → Decides b (r ≡ Try) → b ≡ is_try r
+try_told b r d = same_from_decides b (is_try r) d (by_region r)
+  where
+    by_region : (r : Region) → Decides (is_try r) (r ≡ Try)
+    by_region Idle = ((λ e. cc), (λ e. cc))
+    by_region Try = ((λ e. refl), (λ e. refl))
+    by_region Crit = ((λ e. cc), (λ e. cc))
+    by_region Exit = ((λ e. cc), (λ e. cc))
 
-  pub idle_more : (p : ℕ) (held now o : Option ℕ) → i < length xs → now ≡ cond (is_try (T.region s p)) held (lower held s) →
-      after T s (get_or xs i 0) ≡ o →
-      least_idle T p held s (drop i xs) ≡ or_else o (λ t. least_idle T p now t (drop (i + 1) xs)) now
-  idle_more p held now o h n e =
-      at_drop_more (least_idle T p held s) xs i 0 h
-      ∙ ap (λ k. or_else (after T s (get_or xs i 0)) (λ t. least_idle T p k t (drop (i + 1) xs)) k) (sym n)
-      ∙ ap (λ o. or_else o (λ t. least_idle T p now t (drop (i + 1) xs)) now) e
+-- The lowest state where p does not wait, gathered over the states visited.
+pub idle_visits : (T : Transitions) (p : ℕ) (held : Option ℕ) (s : ℕ) (bs : List ℕ) →
+    fold (λ held e. cond (is_try (T.region e.0 p)) held (lower held e.0)) held (visits T s bs) ≡ least_idle T p held s bs
+idle_visits T p held s [] = refl
+idle_visits T p held s (b ∷ bs) = by_next (after T s b) (λ t. idle_visits T p now t bs)
+  where
+    now : Option ℕ
+    now = cond (is_try (T.region s p)) held (lower held s)
 
-pub and_true : (b : Bool) → b ≡ (b && true)
-and_true true = refl
-and_true false = refl
+    by_next : (o : Option ℕ) →
+        ((t : ℕ) → fold (λ held e. cond (is_try (T.region e.0 p)) held (lower held e.0)) now (visits T t bs) ≡ least_idle T p now t bs) →
+        fold (λ held e. cond (is_try (T.region e.0 p)) held (lower held e.0)) now (or_else o (λ t. visits T t bs) [])
+        ≡ or_else o (λ t. least_idle T p now t bs) now
+    by_next None same = refl
+    by_next (Some t) same = same t
 
-module _ (S : FairSystem) (xs : List ℕ) (i s j : ℕ) where
-  pub neglected_end : (b : Bool) → length xs ≤ i → (b && neglected S j s (drop i xs)) ≡ b
-  neglected_end b h = ap (λ x. b && x) (at_drop_all (neglected S j s) xs i h) ∙ sym (and_true b)
-
-  -- b and b': the class is still owed before and after the next step
-  pub neglected_more : (b b' : Bool) (o : Option ℕ) → i < length xs → b' ≡ (b && owed S j s (get_or xs i 0)) →
-      after S.steps s (get_or xs i 0) ≡ o →
-      (b && neglected S j s (drop i xs)) ≡ (b' && or_else o (λ t. neglected S j t (drop (i + 1) xs)) true)
-  neglected_more b b' o h e q =
-      ap (λ x. b && x) (at_drop_more (neglected S j s) xs i 0 h ∙ ap (λ o. owed S j s (get_or xs i 0) && or_else o (λ t. neglected S j t (drop (i + 1) xs)) true) q)
-      ∙ sym (and_assoc b (owed S j s (get_or xs i 0)) _) ∙ ap (λ x. x && or_else o (λ t. neglected S j t (drop (i + 1) xs)) true) (sym e)
-    where
-      and_assoc : (a b c : Bool) → ((a && b) && c) ≡ (a && (b && c))
-      and_assoc true b c = refl
-      and_assoc false b c = refl
-
--- A number that passes the test, at i or after it.
-pub least_more : (f : ℕ → Bool) (i n : ℕ) (b : Bool) → i < n → f i ≡ b → least f i (n - i) ≡ cond b (Some i) (least f (i + 1) (n - (i + 1)))
-least_more f i n b h e =
-    let q : n - i ≡ suc (n - (i + 1)) = omega arith in
-    ap (least f i) q ∙ ap (λ b. cond b (Some i) (least f (i + 1) (n - (i + 1)))) e
-
-pub least_end : (f : ℕ → Bool) (i n : ℕ) → n ≤ i → least f i (n - i) ≡ None
-least_end f i n h = ap (least f i) (let q : n - i ≡ 0 = omega arith in q)
-
--- Tests that agree find the same number.
-pub least_same : (f g : ℕ → Bool) (i n : ℕ) → ((j : ℕ) → j < i + n → f j ≡ g j) → least f i n ≡ least g i n
-least_same f g i zero h = refl
-least_same f g i (suc n) h =
-    ap (λ b. cond b (Some i) (least f (i + 1) n)) (h i (omega arith))
-    ∙ ap (cond (g i) (Some i)) (least_same f g (i + 1) n (λ j l. h j (omega arith)))
+-- A class is neglected when it is owed at each state visited.
+pub neglected_visits : (S : FairSystem) (j s : ℕ) (bs : List ℕ) →
+    list_all (λ e. owed S j e.0 e.1) (visits S.steps s bs) ≡ neglected S j s bs
+neglected_visits S j s [] = refl
+neglected_visits S j s (b ∷ bs) = ap (λ x. owed S j s b && x) (by_next (after S.steps s b) (λ t. neglected_visits S j t bs))
+  where
+    by_next : (o : Option ℕ) → ((t : ℕ) → list_all (λ e. owed S j e.0 e.1) (visits S.steps t bs) ≡ neglected S j t bs) →
+        list_all (λ e. owed S j e.0 e.1) (or_else o (λ t. visits S.steps t bs) []) ≡ or_else o (λ t. neglected S j t bs) true
+    by_next None same = refl
+    by_next (Some t) same = same t

@@ -5,7 +5,7 @@ use Rattle.system.specs.Transitions.{Enabled, Waits, Clash}
 use Rattle.system.specs.Runs.{Step, command, rest, Walk}
 use Rattle.system.specs.Justice.{FairSystem, ClassDisabled, OfClass}
 use Rattle.lasso.specs.BadRuns.{LoopState}
-use Rattle.run_refusal.specs.declared.Place.{Place}
+use Rattle.place.specs.declared.Place.{Place}
 use Rattle.run_refusal.specs.declared.RunRefusal.{RunRefusal}
 use Rattle.run_refusal.specs.declared.RunRefusal.TheVariants.{WrongLength, WrongKind, WrongProcess, WrongStep, WrongLoopCount, StepDisabled, NoClash, LoopOpen, NotWaiting, ClassNeglected}
 use Rattle.run_refusal.specs.Refusals.{number, placed, Earlier}

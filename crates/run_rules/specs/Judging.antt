@@ -19,6 +19,12 @@ or_else None f x = x
 abbrev pub after : Transitions → ℕ → ℕ → Option ℕ
 after T s b = cond (b == 255) (Some s) (T.next s b)
 
+-- The states that the steps from s are taken in, each with its step's byte. The first step that is not possible is
+-- the last.
+abbrev pub visits : Transitions → ℕ → List ℕ → List (ℕ × ℕ)
+visits T s [] = []
+visits T s (b ∷ bs) = (s, b) ∷ or_else (after T s b) (λ t. visits T t bs) []
+
 -- The last state of the steps from s, the first of which has index i.
 abbrev pub walked : Transitions → ℕ → ℕ → List ℕ → Result ℕ RunRefusal
 walked T s i [] = Ok s
