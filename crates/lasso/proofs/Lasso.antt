@@ -2,15 +2,12 @@
 use Rattle.std.proofs.Common.{◌≡◌, ℕ, zero, suc, ◌+◌, ◌*◌, ◌<◌, ◌≤◌, ◌⊎◌, List, [], ◌∷◌, ◌++◌, length, get_or, take, drop, sym, refl, ap, ◌∙◌, subst, ap₂, inl, inr, append_assoc, append-nil, suc-mul, arith, length-append, take-append-drop}
 use native.Mathlib.Decide.{le_ind}
 use Rattle.std.specs.List.{ContainsAt as Has}
+use Rattle.std.proofs.lemmas.List.{take_at}
 use Rattle.system.specs.Transitions.{Transitions, Waits}
 use Rattle.system.specs.Runs.{Step, command, rest, Leads, Walk, Run}
 use Rattle.system.specs.Justice.{ClassDisabled, OfClass, Just, InfinitelyOften}
 use Rattle.lasso.specs.BadRuns.{LoopState, TreatedJustly, clash, lockout}
 use Rattle.lasso.specs.Claims.{StemThenLoop, ClashRunReachesClash, LockoutLeavesTrying, BadRunBreaksLock}
-
-take_front : {A : Type 0} (v w : List A) → take (length v) (v ++ w) ≡ v
-take_front [] w = refl
-take_front (a ∷ v) w = ap (λ l. a ∷ l) (take_front v w)
 
 module _ (T : Transitions) where
   pub leads_one : (s t t' : ℕ) (a : Step) → Leads T s a t → Leads T s a t' → t ≡ t'
@@ -133,7 +130,7 @@ module _ (T : Transitions) where
       loop_state x (v, e, to) =
           let w : List Step = x.first ∷ x.later in
           let long : length v + length w ≡ length (a₀ ∷ w₀) = sym (length-append v w) ∙ ap length e in
-          let front : take (length v) (a₀ ∷ w₀) ≡ v = ap (take (length v)) (sym e) ∙ take_front v w in
+          let front : take (length v) (a₀ ∷ w₀) ≡ v = ap (take (length v)) (sym e) ∙ take_at v w (length v) refl in
           (length v, omega arith, rw front to)
 
       -- the moment when the stem is done
@@ -158,7 +155,7 @@ module _ (T : Transitions) where
       next_steps : (v w : List Step) (i : ℕ) → Next i (v ++ w) →
           ((k : ℕ) → k < length v → (point (i + k)).first ≡ get_or v k rest) × Next (i + length v) w
       next_steps [] w i at =
-          ((λ k h. absurd (let f : ⊥ = omega arith in f)), let P : ℕ → Type 0 = λ m. Next m w in subst P (let q : i ≡ i + 0 = omega arith in q) at)
+          ((λ k h. absurd (omega arith)), let P : ℕ → Type 0 = λ m. Next m w in subst P (let q : i ≡ i + 0 = omega arith in q) at)
       next_steps (a ∷ v) w i (f, g) =
           let (steps, then) = next_steps v w (suc i) (ap lead g, ap others g) in
           let P : ℕ → Type 0 = λ m. Next m w in

@@ -1,8 +1,5 @@
 //! Judging a run that was read: the causes are tried in their order.
 ghost use Rattle.std.specs.Prelude.{◌≡◌, ◌+◌, ◌^◌, ◌<◌, length, Ok, Err};
-ghost use Rattle.run_rules.specs.Layout.{BadBytes};
-ghost use Rattle.run_rules.specs.Causes.{RightRefusal};
-ghost use Rattle.run_rules.specs.Claims.{Condemned};
 ghost use Rattle.run_rules.specs.Judging.{judged_loop, judged_clash, judged_lockout, run_answer};
 
 use super::part::Part;
@@ -55,7 +52,7 @@ fn judge_lockout<S: System>(process: u8, stem: &Part<S>, cycle: &[u8]) -> Result
 }
 
 /// The answer, by its computing definition.
-fn answer<S: System>(system: &S, bytes: &[u8]) -> Result<(), RunRefusal>
+pub(crate) fn answer<S: System>(system: &S, bytes: &[u8]) -> Result<(), RunRefusal>
     ensures { result ≡ run_answer (S.meaning system.now) bytes.now }
 {
     let Run {
@@ -73,14 +70,4 @@ fn answer<S: System>(system: &S, bytes: &[u8]) -> Result<(), RunRefusal>
         Kind::Clash => judge_clash(&stem),
         Kind::Lockout => judge_lockout(process, &stem, cycle),
     }
-}
-
-/// The answer, with what it means.
-pub(crate) fn judge<S: System>(system: &S, bytes: &[u8]) -> Result<(), RunRefusal>
-    ensures right { elim result [ Ok _ ↦ BadBytes (S.meaning system.now) bytes.now | Err e ↦ RightRefusal (S.meaning system.now) bytes.now e ] }
-    ensures all { BadBytes (S.meaning system.now) bytes.now → result ≡ Ok tt }
-    ensures condemned { elim result [ Ok _ ↦ Condemned (S.meaning system.now) bytes.now | Err _ ↦ Unit {0} ] }
-    ensures same { result ≡ run_answer (S.meaning system.now) bytes.now }
-{
-    answer(system, bytes)
 }

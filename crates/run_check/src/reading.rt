@@ -1,5 +1,5 @@
 //! Reading a run's fields, from the front; the first fault decides.
-ghost use Rattle.std.specs.Prelude.{◌≡◌, ◌+◌, ◌<◌, ◌≤◌, length, if◌then◌else◌, nat_lt, Ok, Err, IfSome, IfOk, OnOk};
+ghost use Rattle.std.specs.Prelude.{◌≡◌, ◌+◌, ◌<◌, ◌≤◌, length, if◌then◌else◌, nat_lt, Ok, Err, IfSome, IfOk, OnOk, MatchResult};
 ghost use Rattle.run_refusal.specs.declared.RunRefusal.TheVariants.{WrongLength};
 ghost use Rattle.run_rules.specs.Reading.{is_step_lem, no_step, byte_at, count_at, is_process_lem, process_at_lem, is_loop_count_lem, loop_count_at_lem, steps_at_lem, fields, read_run_lem};
 
@@ -107,7 +107,7 @@ impl<'a> Cursor<'a> {
 
     /// The next `count` step bytes. A count means nothing until the bytes are there.
     fn steps(&mut self, count: usize, commands: u8) -> Result<&'a [u8], RunRefusal>
-        ensures read { elim result [ Ok steps ↦ Ok steps.now ≡ steps_at_lem commands self.old.bytes.now self.old.at count | Err e ↦ Err e ≡ steps_at_lem commands self.old.bytes.now self.old.at count ] }
+        ensures read { MatchResult result (λ steps. Ok steps.now ≡ steps_at_lem commands self.old.bytes.now self.old.at count) (λ e. Err e ≡ steps_at_lem commands self.old.bytes.now self.old.at count) }
         ensures bytes { self.new.bytes ≡ self.old.bytes }
         ensures at { IfOk result (λ steps. (length steps.now ≡ count) × (self.new.at ≡ self.old.at + count)) }
     {
@@ -147,8 +147,8 @@ pub(crate) struct Run<'a> {
 }
 
 pub(crate) fn read_run<'a, S: System>(system: &S, bytes: &'a [u8]) -> Result<Run<'a>, RunRefusal>
-    ensures same { elim result [ Ok run ↦ read_run_lem (S.meaning system.now).steps bytes.now ≡ Ok (fields run.kind run.process run.stem.now run.cycle.now) | Err e ↦ read_run_lem (S.meaning system.now).steps bytes.now ≡ Err e ] }
-    ensures fits { elim result [ Ok run ↦ length run.stem.now + length run.cycle.now ≤ length bytes.now | Err e ↦ Unit {0} ] }
+    ensures same { MatchResult result (λ run. read_run_lem (S.meaning system.now).steps bytes.now ≡ Ok (fields run.kind run.process run.stem.now run.cycle.now)) (λ e. read_run_lem (S.meaning system.now).steps bytes.now ≡ Err e) }
+    ensures fits { IfOk result (λ run. length run.stem.now + length run.cycle.now ≤ length bytes.now) }
 {
     let mut cursor = Cursor { bytes, at: 0 };
     let kind = Kind::try_from(cursor.byte()?)?;

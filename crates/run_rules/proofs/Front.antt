@@ -1,7 +1,7 @@
 -- Reading refuses by the first fault, and what it reads has none.
 use Rattle.std.proofs.Common.{◌≡◌, ℕ, zero, suc, ◌+◌, ◌-◌, ◌<◌, ◌≤◌, min, Bool, true, false, not, cond, eqb, ltb, leb, ◌⊎◌, List, [], ◌∷◌, length, get_or, take, drop, Some, None, Ok, Err, Option, Result, sym, refl, ap, ◌∙◌, subst, inl, inr, arith, MatchResult}
 use Rattle.std.proofs.lemmas.List.{length-take, length-drop, get_or-take, get_or-drop}
-use Rattle.std.proofs.lemmas.Bool.{cond_both}
+use Rattle.std.proofs.lemmas.Bool.{cond_both, not-true, not-false}
 use Rattle.std.proofs.lemmas.Bool.Decides.{nat_tests}
 use Rattle.system.specs.Justice.{FairSystem, Lawful}
 use Rattle.byte_numbers.specs.Numbers.{number_at}
@@ -23,18 +23,12 @@ abbrev NoStep : ℕ → ℕ → List ℕ → Option ℕ → Type 0
 NoStep K k xs (Some i) = (j : ℕ) × (i ≡ k + j) × (j < length xs) × (is_step_lem K (get_or xs j 0) ≡ false) × ((l : ℕ) → l < j → is_step_lem K (get_or xs l 0) ≡ true)
 NoStep K k xs None = (l : ℕ) → l < length xs → is_step_lem K (get_or xs l 0) ≡ true
 
-not_not : (b c : Bool) → not b ≡ not c → b ≡ c
-not_not true true e = refl
-not_not true false e = sym e
-not_not false true e = sym e
-not_not false false e = refl
-
 no_step_told : (K k : ℕ) (xs : List ℕ) → NoStep K k xs (no_step K k xs)
-no_step_told K k [] = λ l h. absurd (let f : ⊥ = omega arith in f)
+no_step_told K k [] = λ l h. absurd (omega arith)
 no_step_told K k (b ∷ xs) =
     cond_both (not (is_step_lem K b)) (Some k) (no_step K (k + 1) xs) (NoStep K k (b ∷ xs))
-    (λ e. (0, omega arith, omega arith, not_not (is_step_lem K b) false e, λ l h. absurd (let f : ⊥ = omega arith in f)))
-    (λ e. later (not_not (is_step_lem K b) true e) (no_step K (k + 1) xs) (no_step_told K (k + 1) xs))
+    (λ e. (0, omega arith, omega arith, not-true (is_step_lem K b) e, λ l h. absurd (omega arith)))
+    (λ e. later (not-false (is_step_lem K b) e) (no_step K (k + 1) xs) (no_step_told K (k + 1) xs))
   where
     each : is_step_lem K b ≡ true → (j : ℕ) → ((l : ℕ) → l < j → is_step_lem K (get_or xs l 0) ≡ true) → (l : ℕ) → l < suc j → is_step_lem K (get_or (b ∷ xs) l 0) ≡ true
     each e j h zero q = e
@@ -106,7 +100,7 @@ module _ (S : FairSystem) (bs : List ℕ) where
   refuse_process : Clean S bs 1 → Cause S bs WrongProcess → Refused WrongProcess
   refuse_process w c =
       refuse WrongProcess 1 (omega arith) refl w
-      (record { short = λ d. grind arith; kind = λ e _. absurd (let f : ⊥ = omega arith in f); process = λ _ _. omega arith; step = λ _. omega arith }) c
+      (record { short = λ d. grind arith; kind = λ e _. absurd (omega arith); process = λ _ _. omega arith; step = λ _. omega arith }) c
 
   refuse_step : (i : ℕ) → Clean S bs i → Cause S bs (WrongStep i) → Refused (WrongStep i)
   refuse_step i w c =

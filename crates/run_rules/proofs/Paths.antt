@@ -1,6 +1,7 @@
 -- What the walks over step bytes say of walks, loop states and classes.
 use Rattle.std.proofs.Common.{◌≡◌, ℕ, zero, suc, ◌+◌, ◌<◌, ◌≤◌, min, Bool, true, false, cond, not, ◌&&◌, eqb, ◌⊎◌, List, [], ◌∷◌, map, length, get_or, take, Some, None, Ok, Err, Option, Result, sym, refl, ap, ◌∙◌, subst, inl, inr, arith}
 use Rattle.std.specs.List.{ContainsAt as Has}
+use Rattle.std.specs.Bool.{Decides}
 use Rattle.std.proofs.lemmas.Bool.Decides.{nat_tests, not_from_Decides}
 use Rattle.std.proofs.lemmas.Bool.{cond_both}
 use Rattle.system.specs.declared.Region.{Region}
@@ -19,6 +20,13 @@ use Rattle.run_rules.specs.Judging.{or_else, after, walked, is_try, lower, least
 
 some_is : {a b : ℕ} → ◌≡◌ {A = Option ℕ} (Some a) (Some b) → a ≡ b
 some_is e = cc
+
+-- A process waits where its region is try.
+pub try_decides : (r : Region) → Decides (is_try r) (r ≡ Try)
+try_decides Idle = ((λ e. cc), (λ e. cc))
+try_decides Try = ((λ e. refl), (λ e. refl))
+try_decides Crit = ((λ e. cc), (λ e. cc))
+try_decides Exit = ((λ e. cc), (λ e. cc))
 
 module _ (T : Transitions) where
   -- the step byte b leads where `after` says
@@ -40,7 +48,7 @@ module _ (T : Transitions) where
   after_none s b = by_test (eqb b 255)
     where
       by_test : (x : Bool) → cond x (Some s) (T.next s b) ≡ None → (cond x rest (command b) ≡ command b) × (T.next s b ≡ None)
-      by_test true e = let z : ◌≡◌ {A = ℕ} 0 1 = cc in absurd (let f : ⊥ = omega arith in f)
+      by_test true e = cc
       by_test false e = (refl, e)
 
   pub record Stuck (s n : ℕ) (xs : List ℕ) (e : RunRefusal) : Type 0 where
@@ -84,7 +92,7 @@ module _ (T : Transitions) where
 
   -- a walk goes through a state at each of its places, and on by its step there
   pub walk_through : (w : List Step) (s t i : ℕ) → Walk T s w t → i < length w → (u v : ℕ) × Walk T s (take i w) u × Leads T u (get_or w i rest) v
-  walk_through [] s t i h l = absurd (let f : ⊥ = omega arith in f)
+  walk_through [] s t i h l = absurd (omega arith)
   walk_through (a ∷ w) s t zero h l = (s, h.0, refl, h.1)
   walk_through (a ∷ w) s t (suc i) h l =
       let g = walk_through w h.0 t i h.2 (omega arith) in
@@ -102,16 +110,10 @@ module _ (T : Transitions) where
   loop_there s a w m u l h = let b = h.1 in (suc h.0, omega arith, (m, l, h.2))
 
   waits_is : (p u : ℕ) → is_try (T.region u p) ≡ true → Waits T p u
-  waits_is p u = by_region (T.region u p)
-    where
-      by_region : (r : Region) → is_try r ≡ true → r ≡ Try
-      by_region Idle e = let z : ◌≡◌ {A = ℕ} 0 1 = cc in absurd (let f : ⊥ = omega arith in f)
-      by_region Try e = refl
-      by_region Crit e = let z : ◌≡◌ {A = ℕ} 0 1 = cc in absurd (let f : ⊥ = omega arith in f)
-      by_region Exit e = let z : ◌≡◌ {A = ℕ} 0 1 = cc in absurd (let f : ⊥ = omega arith in f)
+  waits_is p u = (try_decides (T.region u p)).0
 
   waits_not : (p u : ℕ) → is_try (T.region u p) ≡ false → ¬ Waits T p u
-  waits_not p u e w = let q = ap is_try w in let z : ◌≡◌ {A = Bool} true false = cc in let y : ◌≡◌ {A = ℕ} 0 1 = cc in omega arith
+  waits_not p u = not_from_Decides (is_try (T.region u p)) (try_decides (T.region u p))
 
   -- what least-idle finds beside what it held
   abbrev pub IdleTold : ℕ → Option ℕ → ℕ → List ℕ → Option ℕ → Type 0
@@ -122,8 +124,8 @@ module _ (T : Transitions) where
       × ((v : ℕ) → LoopState T s (map step_of xs) v → ¬ Waits T p v → u ≤ v)
 
   held_told : (p : ℕ) (held : Option ℕ) (s : ℕ) → IdleTold p held s [] held
-  held_told p None s = (refl, λ u l. absurd (let h = l.1 in let f : ⊥ = omega arith in f))
-  held_told p (Some u) s = (inl refl, (λ v e. let q = some_is e in omega arith), λ v l _. absurd (let h = l.1 in let f : ⊥ = omega arith in f))
+  held_told p None s = (refl, λ u l. (let h = l.1 in absurd (omega arith)))
+  held_told p (Some u) s = (inl refl, (λ v e. let q = some_is e in omega arith), λ v l _. (let h = l.1 in absurd (omega arith)))
 
   pub loop_split : (s : ℕ) (a : Step) (w : List Step) (m u : ℕ) → Leads T s a m → LoopState T s (a ∷ w) u → (s ≡ u) ⊎ LoopState T m w u
   loop_split s a w m u l h = elim (loop_cases s a w u h) [
@@ -161,7 +163,7 @@ module _ (T : Transitions) where
     lowest : (held : Option ℕ) (u : ℕ) → ¬ Waits T p s → IdleTold p (lower held s) m xs (Some u) → IdleTold p held s (b ∷ xs) (Some u)
     lowest None u n c = (
       elim c.0 [ inl e ↦ inr (idle_here u (some_is e) n) | inr g ↦ inr (same g) ],
-      (λ v e. let z : ◌≡◌ {A = ℕ} 0 1 = cc in absurd (let f : ⊥ = omega arith in f)),
+      (λ v e. cc),
       λ v l k. elim (split v l) [ inl e ↦ (let q = c.1 s refl in omega arith) | inr g ↦ c.2 v g k ],
     )
     lowest (Some h) u n c = (
@@ -178,8 +180,8 @@ module _ (T : Transitions) where
         lower_of e (inr q) = inr (idle_here u (sym q.0 ∙ e) n)
 
     lowered : (held o : Option ℕ) → ¬ Waits T p s → IdleTold p (lower held s) m xs o → IdleTold p held s (b ∷ xs) o
-    lowered None None n c = let a = c.0 in let z : ◌≡◌ {A = ℕ} 0 1 = cc in absurd (let f : ⊥ = omega arith in f)
-    lowered (Some h) None n c = let a = c.0 in let z : ◌≡◌ {A = ℕ} 0 1 = cc in absurd (let f : ⊥ = omega arith in f)
+    lowered None None n c = let a = c.0 in cc
+    lowered (Some h) None n c = let a = c.0 in cc
     lowered held (Some u) n c = lowest held u n c
 
     back : (held o : Option ℕ) (x : Bool) → is_try (T.region s p) ≡ x → IdleTold p (cond x held (lower held s)) m xs o → IdleTold p held s (b ∷ xs) o
@@ -255,7 +257,7 @@ module _ (S : FairSystem) (law : Lawful S) where
     turn true false z e f w = on z w e f
 
   pub neglected_told : (j s t : ℕ) (xs : List ℕ) → Walk S.steps s (map step_of xs) t → NeglectedTold j s xs (neglected S j s xs)
-  neglected_told j s t [] w = ((λ u l. absurd (let h = l.1 in let f : ⊥ = omega arith in f)), (λ a l. absurd (let h = l.1 in let f : ⊥ = omega arith in f)))
+  neglected_told j s t [] w = ((λ u l. (let h = l.1 in absurd (omega arith))), (λ a l. (let h = l.1 in absurd (omega arith))))
   neglected_told j s t (b ∷ xs) w =
       let P : Option ℕ → Type 0 = λ o. NeglectedTold j s (b ∷ xs) (owed S j s b && or_else o (λ n. neglected S j n xs) true) in
       subst P (sym (leads_after S.steps s b w.0 w.1))
@@ -267,9 +269,9 @@ LeastTold f i n None = (k : ℕ) → i ≤ k → k < i + n → f k ≡ false
 LeastTold f i n (Some j) = (i ≤ j) × (j < i + n) × (f j ≡ true) × ((k : ℕ) → i ≤ k → k < j → f k ≡ false)
 
 pub least_told : (f : ℕ → Bool) (i n : ℕ) → LeastTold f i n (least f i n)
-least_told f i zero = λ k l h. absurd (let z : ⊥ = omega arith in z)
+least_told f i zero = λ k l h. absurd (omega arith)
 least_told f i (suc n) = cond_both (f i) (Some i) (least f (i + 1) n) (LeastTold f i (suc n))
-    (λ e. (omega arith, omega arith, e, λ k l h. absurd (let z : ⊥ = omega arith in z)))
+    (λ e. (omega arith, omega arith, e, λ k l h. absurd (omega arith)))
     (λ e. later e (least f (i + 1) n) (least_told f (i + 1) n))
   where
     each : f i ≡ false → (m : ℕ) → ((k : ℕ) → i + 1 ≤ k → k < m → f k ≡ false) → (k : ℕ) → (i ≡ k) ⊎ (i < k) → k < m → f k ≡ false

@@ -9,6 +9,7 @@ use Rattle.system.specs.declared.Region.TheVariants.{Idle, Try, Crit, Exit}
 use Rattle.system.specs.Transitions.{Transitions}
 use Rattle.system.specs.Justice.{FairSystem}
 use Rattle.run_refusal.specs.declared.RunRefusal.TheVariants.{StepDisabled}
+use Rattle.run_rules.proofs.Paths.{try_decides}
 use Rattle.run_rules.specs.Judging.{or_else, after, visits, walked, is_try, lower, least_idle, owed, neglected}
 
 -- What is left to walk after the first i steps, where the next leads to o.
@@ -22,15 +23,9 @@ module _ (T : Transitions) (xs : List ℕ) (i s : ℕ) where
       at_drop_more (walked T s n) xs i 0 h
       ∙ ap (λ o. or_else o (λ t. walked T t (n + 1) (drop (i + 1) xs)) (Err (StepDisabled n (get_or xs i 0)))) e
 
--- Whether a process waits, by its region.
+-- The answer to whether a process waits, by its region.
 pub try_told : (b : Bool) (r : Region) → Decides b (r ≡ Try) → b ≡ is_try r
-try_told b r d = same_from_decides b (is_try r) d (by_region r)
-  where
-    by_region : (r : Region) → Decides (is_try r) (r ≡ Try)
-    by_region Idle = ((λ e. cc), (λ e. cc))
-    by_region Try = ((λ e. refl), (λ e. refl))
-    by_region Crit = ((λ e. cc), (λ e. cc))
-    by_region Exit = ((λ e. cc), (λ e. cc))
+try_told b r d = same_from_decides b (is_try r) d (try_decides r)
 
 -- The lowest state where p does not wait, gathered over the states visited.
 pub idle_visits : (T : Transitions) (p : ℕ) (held : Option ℕ) (s : ℕ) (bs : List ℕ) →

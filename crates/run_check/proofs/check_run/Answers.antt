@@ -1,6 +1,6 @@
 use Rattle.std.proofs.Common.{arith}
 use Rattle.run_rules.proofs.Accepted.{right, all, proves}
-use Rattle.run_check.proofs.judging.judge.Goals as goal
+use Rattle.run_check.proofs.check_run.Goals as goal
 
 pub returns : goal.returns
 returns g c =
