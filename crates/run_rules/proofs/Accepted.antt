@@ -1,5 +1,5 @@
 -- The answer is right, and what acceptance proves.
-use Rattle.std.proofs.Common.{◌≡◌, ℕ, List, get_or, Ok, Err, Result, sym, ap, ◌∙◌, subst, inl, inr}
+use Rattle.std.proofs.Common.{◌≡◌, ℕ, List, get_or, Ok, Err, Result, sym, ap, ◌∙◌, subst, inl, inr, MatchResult, OnOk}
 use Rattle.byte_numbers.specs.Numbers.{Bytes}
 use Rattle.system.specs.Runs.{Run, LeavesTrying}
 use Rattle.system.specs.Justice.{FairSystem, Lawful, Just}
@@ -26,8 +26,7 @@ bad_bytes_condemn_lem S bs (lockout_bytes p stem loop few few' c e) =
 
 module _ (S : FairSystem) (law : Lawful S) (bs : List ℕ) where
   abbrev pub Right : Result (Unit {0}) RunRefusal → Type 0
-  Right (Ok x) = BadBytes S bs
-  Right (Err e) = RightRefusal S bs e
+  Right r = MatchResult r (λ _. BadBytes S bs) (λ e. RightRefusal S bs e)
 
   pub right : Bytes bs → (r : Result (Unit {0}) RunRefusal) → r ≡ run_answer S bs → Right r
   right bytes r e = by_answer r (let P : Result (Unit {0}) RunRefusal → Type 0 = λ r. Answered S law bs r in subst P (sym e) (answered S law bs))
@@ -41,8 +40,7 @@ module _ (S : FairSystem) (law : Lawful S) (bs : List ℕ) where
 
   -- What acceptance proves.
   abbrev pub Proves : Result (Unit {0}) RunRefusal → Type 0
-  Proves (Ok x) = Condemned S bs
-  Proves (Err e) = Unit {0}
+  Proves r = OnOk r (Condemned S bs)
 
   pub proves : (r : Result (Unit {0}) RunRefusal) → Right r → Proves r
   proves (Ok x) bad = bad_bytes_condemn_lem S bs bad

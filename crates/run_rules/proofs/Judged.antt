@@ -38,8 +38,8 @@ abbrev Later : ℕ → Place → ℕ → Place → Type 0
 Later m a n b = (m < n) ⊎ ((m ≡ n) × PlaceBefore a b)
 
 ahead_later : (m : ℕ) (a : Place) (n : ℕ) (b : Place) → 36 ≤ m → AheadBy m a n b → Later m a n b
-ahead_later m a n b h (inl x) = let y = x.0 in absurd (let f : ⊥ = omega arith in f)
-ahead_later m a n b h (inr (inl x)) = let y = x.0 in absurd (let f : ⊥ = omega arith in f)
+ahead_later m a n b h (inl x) = let y = x.0 in absurd (omega arith)
+ahead_later m a n b h (inr (inl x)) = let y = x.0 in absurd (omega arith)
 ahead_later m a n b h (inr (inr x)) = x.2
 
 walk_append : (T : Transitions) (v w : List Step) (s t u : ℕ) → Walk T s v t → Walk T t w u → Walk T s (v ++ w) u
@@ -90,10 +90,10 @@ module _ (S : FairSystem) (law : Lawful S) (bs : List ℕ) where
 
     first_by : (n : ℕ) (b : Place) → Above n b → (d : RunRefusal) → Cause S bs d → ¬ AheadBy (number d) (placed d) n b
     first_by n b w (WrongLength i) c a = let x = read.clean.short i c in let y = read.whole in grind arith
-    first_by n b w WrongKind c a = let x = read.clean.kind c in absurd (let f : ⊥ = omega arith in f)
-    first_by n b w WrongProcess c a = let x = read.clean.process c in absurd (let f : ⊥ = omega arith in f)
+    first_by n b w WrongKind c a = let x = read.clean.kind c in absurd (omega arith)
+    first_by n b w WrongProcess c a = let x = read.clean.process c in absurd (omega arith)
     first_by n b w (WrongStep i) c a = good_step i c
-    first_by n b w (WrongLoopCount i) c a = let x = read.clean.loop i c in let y = c.0 in absurd (let f : ⊥ = omega arith in f)
+    first_by n b w (WrongLoopCount i) c a = let x = read.clean.loop i c in let y = c.0 in absurd (omega arith)
     first_by n b w (StepDisabled i k) c a = w.disabled i k c (ahead_later 36 (place 0 i k) n b (omega arith) a)
     first_by n b w (NoClash s) c a = w.no_clash s c (ahead_later 37 (place 0 s 0) n b (omega arith) a)
     first_by n b w (LoopOpen s) c a = w.not_closed s c (ahead_later 38 (place 0 s 0) n b (omega arith) a)
@@ -232,7 +232,7 @@ module _ (S : FairSystem) (law : Lawful S) (bs : List ℕ) where
 
           idle_decides : (u : ℕ) → IdleTold T (get_or bs 1 0) None s loop_bytes (Some u) → RightRefusal S bs (NotWaiting (get_or bs 1 0) u)
           idle_decides u i = record {
-            holds = elim i.0 [ inl e ↦ (let z : ◌≡◌ {A = ℕ} 0 1 = cc in absurd (let f : ⊥ = omega arith in f)) | inr h ↦ (kind, refl, (s, sw, h.0, h.1)) ];
+            holds = elim i.0 [ inl e ↦ cc | inr h ↦ (kind, refl, (s, sw, h.0, h.1)) ];
             first = first_judged (NotWaiting (get_or bs 1 0) u) (record {
               disabled = λ i k c x. ever_on i k c;
               no_clash = λ t c x. other_kind t c;
