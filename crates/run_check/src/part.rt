@@ -1,8 +1,8 @@
 //! Parts of a run: steps that are taken from a state on.
-ghost use Rattle.std.specs.Prelude.{◌≡◌, ℕ, ◌+◌, ◌^◌, ◌<◌, length, if◌then◌else◌, None};
+ghost use Rattle.std.specs.Prelude.{◌≡◌, ℕ, ◌+◌, ◌^◌, ◌<◌, length, not, None};
 ghost use Rattle.std.specs.Iterator.{YieldsFirst, item_count};
 ghost use Rattle.system.specs.Masks.{bit};
-ghost use Rattle.run_rules.specs.Judging.{after, visits, walked, is_try, lower, least_idle, neglected, least};
+ghost use Rattle.run_rules.specs.Judging.{after, visits, walked, is_try, least_idle, neglected, least};
 
 use super::reading::REST;
 use class_set::{ClassSet, enabled_classes};
@@ -20,15 +20,10 @@ fn step_to<S: System>(system: &S, state: u32, byte: u8) -> Option<u32>
     }
 }
 
-/// The lower of the state held, if any, and `state`; only the state held where the process waits at `state`.
-fn held_or<S: System>(system: &S, process: u8, held: Option<u32>, state: u32) -> Option<u32>
-    ensures { result ≡ (if is_try ((S.meaning system.now).steps.region state process) then held else lower held state) }
+fn is_idle<S: System>(system: &S, process: u8, state: u32) -> bool
+    ensures { result ≡ not (is_try ((S.meaning system.now).steps.region state process)) }
 {
-    if waits(system, process, state) {
-        held
-    } else {
-        Some(held.map_or(state, |least| least.min(state)))
-    }
+    !waits(system, process, state)
 }
 
 /// Steps of a run, taken from a state on.
@@ -98,10 +93,10 @@ impl<'a, S: System> Part<'a, S> {
     pub fn idle_at(&self, process: u8) -> Option<u32>
         ensures { result ≡ least_idle (S.meaning self.now.system.now).steps process None self.now.from self.now.steps.now }
     {
-        self.visits().fold(
-            None,
-            |held, (state, _)| held_or(self.system, process, held, state),
-        )
+        self.visits()
+            .map(|(state, _)| state)
+            .filter(|state| is_idle(self.system, process, *state))
+            .min()
     }
 
     /// The classes enabled at each state before a step and taken by no step.

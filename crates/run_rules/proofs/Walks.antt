@@ -1,15 +1,10 @@
 -- What the loops over the steps of a part of a run gather.
-use Rattle.std.proofs.Common.{◌≡◌, ℕ, ◌+◌, ◌<◌, ◌≤◌, Bool, true, cond, ◌&&◌, List, [], ◌∷◌, fold, length, get_or, drop, Some, None, Ok, Err, Option, refl, ap, ◌∙◌}
-use Rattle.std.specs.List.{list_all}
-use Rattle.std.specs.Bool.{Decides}
-use Rattle.std.proofs.lemmas.Bool.Decides.{same_from_decides}
+use Rattle.std.proofs.Common.{◌≡◌, ℕ, ◌+◌, ◌<◌, ◌≤◌, min, Bool, true, false, not, cond, ◌&&◌, List, [], ◌∷◌, map, filter, fold, length, get_or, drop, Some, None, Ok, Err, Option, refl, ap, ◌∙◌}
+use Rattle.std.specs.List.{list_all, reduce}
 use Rattle.std.proofs.lemmas.List.{at_drop_more, at_drop_all}
-use Rattle.system.specs.declared.Region.{Region}
-use Rattle.system.specs.declared.Region.TheVariants.{Idle, Try, Crit, Exit}
 use Rattle.system.specs.Transitions.{Transitions}
 use Rattle.system.specs.Justice.{FairSystem}
 use Rattle.run_refusal.specs.declared.RunRefusal.TheVariants.{StepDisabled}
-use Rattle.run_rules.proofs.Paths.{try_decides}
 use Rattle.run_rules.specs.Judging.{or_else, after, visits, walked, is_try, lower, least_idle, owed, neglected}
 
 -- What is left to walk after the first i steps, where the next leads to o.
@@ -23,25 +18,37 @@ module _ (T : Transitions) (xs : List ℕ) (i s : ℕ) where
       at_drop_more (walked T s n) xs i 0 h
       ∙ ap (λ o. or_else o (λ t. walked T t (n + 1) (drop (i + 1) xs)) (Err (StepDisabled n (get_or xs i 0)))) e
 
--- The answer to whether a process waits, by its region.
-pub try_told : (b : Bool) (r : Region) → Decides b (r ≡ Try) → b ≡ is_try r
-try_told b r d = same_from_decides b (is_try r) d (try_decides r)
+-- The states visited where p does not wait.
+abbrev pub idle_states : Transitions → ℕ → List (ℕ × ℕ) → List ℕ
+idle_states T p vs = filter (λ s. not (is_try (T.region s p))) (map (λ e. e.0) vs)
 
--- The lowest state where p does not wait, gathered over the states visited.
-pub idle_visits : (T : Transitions) (p : ℕ) (held : Option ℕ) (s : ℕ) (bs : List ℕ) →
-    fold (λ held e. cond (is_try (T.region e.0 p)) held (lower held e.0)) held (visits T s bs) ≡ least_idle T p held s bs
-idle_visits T p held s [] = refl
-idle_visits T p held s (b ∷ bs) = by_next (after T s b) (λ t. idle_visits T p now t bs)
+-- The lowest of them and of one held.
+idle_beside : (T : Transitions) (p h s : ℕ) (bs : List ℕ) →
+    ◌≡◌ {A = Option ℕ} (Some (fold min h (idle_states T p (visits T s bs)))) (least_idle T p (Some h) s bs)
+idle_beside T p h s [] = refl
+idle_beside T p h s (b ∷ bs) = by_both (is_try (T.region s p)) (after T s b) (λ t k. idle_beside T p k t bs)
   where
-    now : Option ℕ
-    now = cond (is_try (T.region s p)) held (lower held s)
+    by_both : (x : Bool) (o : Option ℕ) →
+        ((t k : ℕ) → ◌≡◌ {A = Option ℕ} (Some (fold min k (idle_states T p (visits T t bs)))) (least_idle T p (Some k) t bs)) →
+        ◌≡◌ {A = Option ℕ} (Some (fold min h (cond (not x) (s ∷ idle_states T p (or_else o (λ t. visits T t bs) [])) (idle_states T p (or_else o (λ t. visits T t bs) [])))))
+        (or_else o (λ t. least_idle T p (cond x (Some h) (lower (Some h) s)) t bs) (cond x (Some h) (lower (Some h) s)))
+    by_both true None same = refl
+    by_both true (Some t) same = same t h
+    by_both false None same = refl
+    by_both false (Some t) same = same t (min h s)
 
-    by_next : (o : Option ℕ) →
-        ((t : ℕ) → fold (λ held e. cond (is_try (T.region e.0 p)) held (lower held e.0)) now (visits T t bs) ≡ least_idle T p now t bs) →
-        fold (λ held e. cond (is_try (T.region e.0 p)) held (lower held e.0)) now (or_else o (λ t. visits T t bs) [])
-        ≡ or_else o (λ t. least_idle T p now t bs) now
-    by_next None same = refl
-    by_next (Some t) same = same t
+-- The lowest of them.
+pub idle_visits : (T : Transitions) (p s : ℕ) (bs : List ℕ) → reduce min (idle_states T p (visits T s bs)) ≡ least_idle T p None s bs
+idle_visits T p s [] = refl
+idle_visits T p s (b ∷ bs) = by_both (is_try (T.region s p)) (after T s b) (λ t. idle_visits T p t bs)
+  where
+    by_both : (x : Bool) (o : Option ℕ) → ((t : ℕ) → reduce min (idle_states T p (visits T t bs)) ≡ least_idle T p None t bs) →
+        reduce min (cond (not x) (s ∷ idle_states T p (or_else o (λ t. visits T t bs) [])) (idle_states T p (or_else o (λ t. visits T t bs) [])))
+        ≡ or_else o (λ t. least_idle T p (cond x None (lower None s)) t bs) (cond x None (lower None s))
+    by_both true None same = refl
+    by_both true (Some t) same = same t
+    by_both false None same = refl
+    by_both false (Some t) same = idle_beside T p s t bs
 
 -- A class is neglected when it is owed at each state visited.
 pub neglected_visits : (S : FairSystem) (j s : ℕ) (bs : List ℕ) →

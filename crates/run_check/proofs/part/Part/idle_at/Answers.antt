@@ -1,7 +1,10 @@
-use Rattle.std.proofs.Common.{cond, None, rules, ◌∙◌, ℕ, Option}
-use Rattle.std.proofs.lemmas.Iterator.Consumers.{fold_from_yields_List, YieldsList-from_first}
-use Rattle.run_rules.specs.Judging.{visits, is_try, lower}
+use Rattle.std.proofs.Common.{not, rules, sym, refl, ◌∙◌}
+use Rattle.std.proofs.lemmas.Iterator.{YieldsList-from_map}
+use Rattle.std.proofs.lemmas.Iterator.Consumers.{YieldsList-from_first, YieldsList-from_filter, min_from_yields_List}
+use Rattle.std.proofs.lemmas.Iterator.Adapters.{option_map_id}
+use Rattle.run_rules.specs.Judging.{visits, is_try}
 use Rattle.run_rules.proofs.Walks.{idle_visits}
+use Rattle.run_check.specs.declared.part.Visits.{Visits}
 use Rattle.run_check.proofs.part.Part.idle_at.Goals as goal
 
 pub returns : goal.returns
@@ -10,8 +13,12 @@ returns g c =
     let p = c.args.process in
     let from = c.args.self.now.from in
     let steps = c.args.self.now.steps.now in
-    let turn : Option ℕ → (ℕ × ℕ) → Option ℕ = λ held e. cond (is_try (T.region e.0 p)) held (lower held e.0) in
-    fold_from_yields_List _ turn None c.fold.result c.fold.ensures.ran
-    (YieldsList-from_first (λ x. x) (λ v. visits (g.S.System.meaning v.system.now).steps v.state v.steps.now) (visits T from steps) c.visits.ensures)
-    (λ a x b q called. search rules)
-    ∙ idle_visits T p None from steps
+    sym (option_map_id c.min.result)
+    ∙ min_from_yields_List _ c.min.result c.min.ensures.ran
+    (YieldsList-from_filter _ (λ s. not (is_try (T.region s p)))
+    (YieldsList-from_map _ (λ e. e.0)
+    (YieldsList-from_first (λ x. x) (λ (v : Visits g.row.S.Denot). visits (g.S.System.meaning v.system.now).steps v.state v.steps.now) (visits T from steps)
+    (rw c.filter.ensures.source (rw c.map.ensures.source c.visits.ensures)))
+    refl (λ x r q called. search rules))
+    c.filter.ensures.closure (λ x r q called. search rules))
+    ∙ idle_visits T p from steps
