@@ -8,6 +8,7 @@ use run_refusal::RunRefusal;
 use run_rules::Kind;
 use system::{System, is_clash};
 
+/// The causes of the loop, which leads back to where it began.
 fn judge_loop<S: System>(process: u8, cycle: &Part<S>) -> Result<(), RunRefusal>
     ensures { result ≡ judged_loop (S.meaning cycle.now.system.now) process cycle.now.from cycle.now.steps.now }
 {
@@ -20,6 +21,7 @@ fn judge_loop<S: System>(process: u8, cycle: &Part<S>) -> Result<(), RunRefusal>
     Ok(())
 }
 
+/// The causes of a clash.
 fn judge_clash<S: System>(stem: &Part<S>) -> Result<(), RunRefusal>
     requires { stem.now.from ≡ (S.meaning stem.now.system.now).steps.start }
     ensures { result ≡ judged_clash (S.meaning stem.now.system.now) stem.now.steps.now }
@@ -32,6 +34,7 @@ fn judge_clash<S: System>(stem: &Part<S>) -> Result<(), RunRefusal>
     }
 }
 
+/// The causes of a lockout of the process.
 fn judge_lockout<S: System>(process: u8, stem: &Part<S>, cycle: &[u8]) -> Result<(), RunRefusal>
     requires start { stem.now.from ≡ (S.meaning stem.now.system.now).steps.start }
     requires few { length stem.now.steps.now + length cycle.now < 2 ^ 64 }

@@ -20,6 +20,7 @@ fn step_to<S: System>(system: &S, state: u32, byte: u8) -> Option<u32>
     }
 }
 
+/// Whether the process does not wait in the state.
 fn is_idle<S: System>(system: &S, process: u8, state: u32) -> bool
     ensures { result ≡ not (is_try ((S.meaning system.now).steps.region state process)) }
 {
@@ -64,6 +65,7 @@ impl<'a, S: System> Iterator for Visits<'a, S> {
 }
 
 impl<'a, S: System> Part<'a, S> {
+    /// The states that the steps are taken in.
     fn visits(&self) -> Visits<'a, S>
         ensures { visits (S.meaning result.system.now).steps result.state result.steps.now ≡ visits (S.meaning self.now.system.now).steps self.now.from self.now.steps.now }
     {

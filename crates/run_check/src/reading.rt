@@ -31,6 +31,7 @@ fn is_loop_count(count: usize, kind: Kind) -> bool
     }
 }
 
+/// Whether the byte is one of a step.
 fn is_step(byte: u8, commands: u8) -> bool
     ensures { result ≡ is_step_lem commands byte }
 {
@@ -54,6 +55,7 @@ struct Cursor<'a> {
 }
 
 impl<'a> Cursor<'a> {
+    /// The next byte.
     fn byte(&mut self) -> Result<u8, RunRefusal>
         ensures read { result ≡ byte_at self.old.bytes.now self.old.at }
         ensures bytes { self.new.bytes ≡ self.old.bytes }
@@ -67,6 +69,7 @@ impl<'a> Cursor<'a> {
         Ok(*byte)
     }
 
+    /// The process byte, which is the second.
     fn process(&mut self, kind: Kind, processes: u8) -> Result<u8, RunRefusal>
         requires { self.old.at ≡ 1 }
         ensures read { result ≡ process_at_lem processes kind self.old.bytes.now }
@@ -81,6 +84,7 @@ impl<'a> Cursor<'a> {
         }
     }
 
+    /// The next four bytes, a count.
     fn count(&mut self) -> Result<usize, RunRefusal>
         ensures read { result ≡ count_at self.old.bytes.now self.old.at }
         ensures bytes { self.new.bytes ≡ self.old.bytes }
@@ -91,6 +95,7 @@ impl<'a> Cursor<'a> {
         Ok(count as usize)
     }
 
+    /// The next four bytes, the loop count.
     fn loop_count(&mut self, kind: Kind) -> Result<usize, RunRefusal>
         ensures read { result ≡ loop_count_at_lem kind self.old.bytes.now self.old.at }
         ensures bytes { self.new.bytes ≡ self.old.bytes }
@@ -146,6 +151,7 @@ pub(crate) struct Run<'a> {
     pub cycle: &'a [u8],
 }
 
+/// The fields of a run's bytes, or the first fault.
 pub(crate) fn read_run<'a, S: System>(system: &S, bytes: &'a [u8]) -> Result<Run<'a>, RunRefusal>
     ensures same { MatchResult result (λ run. read_run_lem (S.meaning system.now).steps bytes.now ≡ Ok (fields run.kind run.process run.stem.now run.cycle.now)) (λ e. read_run_lem (S.meaning system.now).steps bytes.now ≡ Err e) }
     ensures fits { IfOk result (λ run. length run.stem.now + length run.cycle.now ≤ length bytes.now) }
