@@ -72,16 +72,16 @@ module _ (K : Kind) (S : FairSystem) (law : Lawful S) (bytes : List ℕ) (L : Li
   -- the clause that fails after those that hold decides
   pub clause_refused : (i : ℕ) (d : Clause) (x : Point) → i < length order → FirstHold K S C i
       → LeastPoint (HoldsAt K S C (get_or order i d)) S.steps.processes S.steps.states (Some x)
-      → (e : Refusal) → e ≡ broken (get_or order i d) x.process x.state x.command → RuleRefused K S C e
+      → (e : Refusal) → e ≡ broken (get_or order i d) x.spot.process x.state x.spot.command → RuleRefused K S C e
   clause_refused i d x h first least e is = record {
     earlier = take i order;
     clause = get_or order i d;
     later = drop (i + 1) order;
     in_order = split_at order i d h;
     earlier_hold = first;
-    process = x.process;
+    process = x.spot.process;
     state = x.state;
-    command = x.command;
+    command = x.spot.command;
     process_below = least.0;
     fails = least.2;
     least = least_of_all (HoldsAt K S C (get_or order i d)) S.steps.processes S.steps.states (out_of_range (get_or order i d)) x least;

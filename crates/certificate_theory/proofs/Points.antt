@@ -8,10 +8,10 @@ use Rattle.certificate_theory.specs.Points.{LeastSpot, LeastPoint}
 -- the processes that are still of interest: those below the process found
 abbrev pub limit_after : ℕ → Option Point → ℕ
 limit_after P None = P
-limit_after P (Some x) = x.process
+limit_after P (Some x) = x.spot.process
 
-abbrev pub point : ℕ → ℕ → ℕ → Point
-point p s k = record { process = p; state = s; command = k }
+abbrev pub point : ℕ → Spot → Point
+point s x = record { state = s; spot = x }
 
 below_or_at : (t n : ℕ) → t < n + 1 → (t < n) ⊎ (t ≡ n)
 below_or_at t n h = grind arith
@@ -36,23 +36,23 @@ module _ (HoldsAt : ℕ → ℕ → ℕ → Type 0) (P n : ℕ) where
           by (inr e) = subst (λ t. HoldsAt p t k) (sym e) (here p k below)
   kept_point (Some x) (below, early, fails, least) here = (below, omega arith, fails, later)
     where
-      at_n : (q l : ℕ) → Before q n l x.process x.state x.command → HoldsAt q n l
+      at_n : (q l : ℕ) → Before q n l x.spot.process x.state x.spot.command → HoldsAt q n l
       at_n q l (inl lower) = here q l lower
       at_n q l (inr (e, inl late)) = absurd (omega arith)
       at_n q l (inr (e, inr (same, _))) = absurd (omega arith)
 
-      later : (q t l : ℕ) → q < P → t < n + 1 → Before q t l x.process x.state x.command → HoldsAt q t l
+      later : (q t l : ℕ) → q < P → t < n + 1 → Before q t l x.spot.process x.state x.spot.command → HoldsAt q t l
       later q t l in-range soon earlier = by (below_or_at t n soon)
         where
           by : (t < n) ⊎ (t ≡ n) → HoldsAt q t l
           by (inl h) = least q t l in-range h earlier
           by (inr e) =
               subst (λ u. HoldsAt q u l) (sym e)
-              (at_n q l (subst (λ u. Before q u l x.process x.state x.command) e earlier))
+              (at_n q l (subst (λ u. Before q u l x.spot.process x.state x.spot.command) e earlier))
 
   -- it fails in the state n, at a process below the one found before
   pub new_point : (found : Option Point) (y : Spot) → LeastPoint HoldsAt P n found
-      → LeastSpot (λ p k. HoldsAt p n k) (limit_after P found) (Some y) → LeastPoint HoldsAt P (n + 1) (Some (point y.process n y.command))
+      → LeastSpot (λ p k. HoldsAt p n k) (limit_after P found) (Some y) → LeastPoint HoldsAt P (n + 1) (Some (point n y))
   new_point None y before here = (here.0, omega arith, here.1, later)
     where
       later : (q t l : ℕ) → q < P → t < n + 1 → Before q t l y.process n y.command → HoldsAt q t l
@@ -76,7 +76,7 @@ module _ (HoldsAt : ℕ → ℕ → ℕ → Type 0) (P n : ℕ) where
           by (inl h) = let m = at_most q t l earlier in let z = here.0 in least q t l in-range h (inl (omega arith))
           by (inr e) =
               subst (λ u. HoldsAt q u l) (sym e)
-              (at_spot x.process y here q l (subst (λ u. Before q u l y.process n y.command) e earlier))
+              (at_spot x.spot.process y here q l (subst (λ u. Before q u l y.process n y.command) e earlier))
 
 -- where no state from n on matters
 pub everywhere : (HoldsAt : ℕ → ℕ → ℕ → Type 0) (P n : ℕ) → ((p s k : ℕ) → p < P → n ≤ s → HoldsAt p s k)
@@ -91,7 +91,7 @@ everywhere HoldsAt P n outside none p s k below = by (which s n)
     by (inr h) = outside p s k below h
 
 pub least_of_all : (HoldsAt : ℕ → ℕ → ℕ → Type 0) (P n : ℕ) → ((p s k : ℕ) → p < P → n ≤ s → HoldsAt p s k)
-    → (x : Point) → LeastPoint HoldsAt P n (Some x) → (q t l : ℕ) → q < P → Before q t l x.process x.state x.command → HoldsAt q t l
+    → (x : Point) → LeastPoint HoldsAt P n (Some x) → (q t l : ℕ) → q < P → Before q t l x.spot.process x.state x.spot.command → HoldsAt q t l
 least_of_all HoldsAt P n outside x (below, early, fails, least) q t l in-range earlier = by (which t n)
   where
     which : (a b : ℕ) → (a < b) ⊎ (b ≤ a)

@@ -18,8 +18,8 @@ LeastSpot HoldsAt limit (Some x) =
 abbrev pub LeastPoint : (ℕ → ℕ → ℕ → Type 0) → ℕ → ℕ → Option Point → Type 0
 LeastPoint HoldsAt limit n None = (p s k : ℕ) → p < limit → s < n → HoldsAt p s k
 LeastPoint HoldsAt limit n (Some x) =
-    (x.process < limit) × (x.state < n) × (¬ HoldsAt x.process x.state x.command)
-    × ((q t l : ℕ) → q < limit → t < n → Before q t l x.process x.state x.command → HoldsAt q t l)
+    (x.spot.process < limit) × (x.state < n) × (¬ HoldsAt x.spot.process x.state x.spot.command)
+    × ((q t l : ℕ) → q < limit → t < n → Before q t l x.spot.process x.state x.spot.command → HoldsAt q t l)
 
 -- `row` is the one row of the process p at the state s.
 abbrev pub OnlyRow : Certificate → ℕ → ℕ → Row (List ℕ) → Type 0

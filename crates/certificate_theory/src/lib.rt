@@ -21,29 +21,16 @@ impl Refusal {
         ensures { result ≡ number self }
     {
         match self {
-            Refusal::Length { at: _ } => 21,
+            Refusal::Length { .. } => 21,
             Refusal::KindByte => 22,
-            Refusal::State { at: _ } => 23,
-            Refusal::Class { at: _ } => 24,
-            Refusal::StartUnlisted { state: _ } => 25,
-            Refusal::ListedClash { state: _ } => 26,
-            Refusal::SuccessorUnlisted {
-                state: _,
-                command: _,
-            } => 27,
-            Refusal::RowsDiffer {
-                process: _,
-                state: _,
-            } => 28,
-            Refusal::ClassDisabled {
-                process: _,
-                state: _,
-            } => 29,
-            Refusal::RankRule {
-                process: _,
-                state: _,
-                command: _,
-            } => 30,
+            Refusal::State { .. } => 23,
+            Refusal::Class { .. } => 24,
+            Refusal::StartUnlisted { .. } => 25,
+            Refusal::ListedClash { .. } => 26,
+            Refusal::SuccessorUnlisted { .. } => 27,
+            Refusal::RowsDiffer { .. } => 28,
+            Refusal::ClassDisabled { .. } => 29,
+            Refusal::RankRule { .. } => 30,
         }
     }
 
@@ -51,45 +38,26 @@ impl Refusal {
     pub fn place(self) -> Place
         ensures { result ≡ placed self }
     {
-        match self {
-            Refusal::KindByte => Place {
-                process: 0,
-                index: 0,
-                command: 0,
-            },
-            Refusal::Length { at } | Refusal::State { at } | Refusal::Class { at } => Place {
-                process: 0,
-                index: at,
-                command: 0,
-            },
+        let (process, index, command) = match self {
+            Refusal::KindByte => (0, 0, 0),
+            Refusal::Length { at } | Refusal::State { at } | Refusal::Class { at } => (0, at, 0),
             Refusal::StartUnlisted { state } | Refusal::ListedClash { state } => {
-                Place {
-                    process: 0,
-                    index: state as usize,
-                    command: 0,
-                }
+                (0, state as usize, 0)
             }
-            Refusal::SuccessorUnlisted { state, command } => Place {
-                process: 0,
-                index: state as usize,
-                command,
-            },
+            Refusal::SuccessorUnlisted { state, command } => (0, state as usize, command),
             Refusal::RowsDiffer { process, state } | Refusal::ClassDisabled { process, state } => {
-                Place {
-                    process,
-                    index: state as usize,
-                    command: 0,
-                }
+                (process, state as usize, 0)
             }
             Refusal::RankRule {
                 process,
                 state,
                 command,
-            } => Place {
-                process,
-                index: state as usize,
-                command,
-            },
+            } => (process, state as usize, command),
+        };
+        Place {
+            process,
+            index,
+            command,
         }
     }
 }

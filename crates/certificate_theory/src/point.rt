@@ -5,10 +5,9 @@ pub struct Spot {
     pub command: u8,
 }
 
-/// A process, a state and a command at which a clause of the rule fails.
+/// A state, and where in it a clause of the rule fails.
 #[derive(Clone, Copy)]
 pub struct Point {
-    pub process: u8,
     pub state: u32,
-    pub command: u8,
+    pub spot: Spot,
 }
