@@ -3,7 +3,7 @@ use Rattle.certificate_theory.specs.declared.limits.Limits.{Limits}
 use Rattle.certificate_theory.specs.Reading.{reading_fault}
 use Rattle.certificate_theory.specs.Content.{limits_of_lem}
 use Rattle.certificate_read.specs.Views.{refusal_in, Begins}
-use Rattle.certificate_read.proofs.Widths.{read_rightly}
+use Rattle.certificate_read.proofs.Answered.{read_rightly}
 use Rattle.certificate_read.proofs.read_certificate.Goals as goal
 
 pub returns : goal.returns

@@ -1,58 +1,48 @@
-use Rattle.std.proofs.Common.{◌≡◌, ℕ, ◌<◌, get_or, Some, None, sym, ap, ◌∙◌, subst, arith}
+use Rattle.std.proofs.Common.{Some, sym, ap, ◌∙◌, arith}
 use Rattle.std.proofs.lemmas.Result.{err_from_is_err_and}
 use Rattle.certificate_theory.specs.declared.refusal.Refusal.TheVariants.{Length}
-use Rattle.certificate_theory.specs.Fields.{list_end, row_lists}
-use Rattle.certificate_theory.specs.Reading.{first_fault}
-use Rattle.certificate_theory.specs.Content.{list_start, rows_start}
-use Rattle.certificate_theory.proofs.Loops.{kind_right, at_listed, at_rows, at_surplus, at_end}
+use Rattle.certificate_theory.proofs.Loops.{at_listed, at_rows, at_surplus, at_end}
+use Rattle.certificate_read.proofs.Moving.{rows_there, rows_end, kind_there}
 use Rattle.certificate_read.proofs.read_fields.Goals as goal
 
-pub returns-in_err-listed_end : goal.returns-in_err-listed_end
-returns-in_err-listed_end c =
-    let p = err_from_is_err_and c.from_residual.result c.from_residual.ensures.1 in
+pub returns-in_err-list-clause-told : goal.returns-in_err-list-clause-told
+returns-in_err-list-clause-told c =
+    let p = err_from_is_err_and c.from_residual-in_err-list.result c.from_residual-in_err-list.ensures.1 in
     let L = c.args.limits in
     let bs = c.args.bytes.now in
-    let Kind-ok = kind_right L bs (omega (arith, c.if-bytes-eq0.false)) c.if-bytes-limits.false in
-    rw (p.1, p.2) (record { told = sym (at_listed L bs Kind-ok _ (sym c.in_err-listed_end.ensures.told)); begins = tt })
+    let kind = kind_there L bs c.first.result c.in_ok-kind.field-0 c.in_ok-kind.ensures.ok_part c.first.ensures.value c.if-kind-limits.false in
+    rw (p.1, p.2) (sym (at_listed L bs kind _ (sym c.in_err-list.ensures.told)))
 
-pub returns-in_err-lists : goal.returns-in_err-lists
-returns-in_err-lists c =
-    let p = err_from_is_err_and c.from_residual-in_err-lists.result c.from_residual-in_err-lists.ensures.1 in
+pub returns-in_err-starts-clause-told : goal.returns-in_err-starts-clause-told
+returns-in_err-starts-clause-told c =
+    let p = err_from_is_err_and c.from_residual-in_err-starts.result c.from_residual-in_err-starts.ensures.1 in
     let L = c.args.limits in
     let bs = c.args.bytes.now in
-    let Kind-ok = kind_right L bs (omega (arith, c.if-bytes-eq0.false)) c.if-bytes-limits.false in
-    let listed = c.in_ok-listed_end.ensures in
-    let rows : Some c.in_err-lists.field-0.0 ≡ first_fault L bs (list_end bs 1 4) (row_lists L.numbers bs (list_end bs 1 4) L.processes) =
-    subst (λ (n : ℕ). Some c.in_err-lists.field-0.0 ≡ first_fault L bs n (row_lists L.numbers bs n L.processes)) listed.ends.0 c.in_err-lists.ensures.told in
-    rw (p.1, p.2) (record { told = sym (at_rows L bs Kind-ok (sym listed.told) _ (sym rows)); begins = tt })
+    let kind = kind_there L bs c.first.result c.in_ok-kind.field-0 c.in_ok-kind.ensures.ok_part c.first.ensures.value c.if-kind-limits.false in
+    let listed = c.in_ok-list.ensures in
+    let rows = rows_there _ _ _ listed.moves in
+    rw (p.1, p.2) (sym (at_rows L bs kind (sym listed.told) _ (sym (c.in_err-starts.ensures.told ∙ rows))))
 
-pub returns-then-lists-bytes : goal.returns-then-lists-bytes
-returns-then-lists-bytes c =
+pub returns-then-cursor-bytes-clause-told : goal.returns-then-cursor-bytes-clause-told
+returns-then-cursor-bytes-clause-told c =
     let L = c.args.limits in
     let bs = c.args.bytes.now in
-    let Kind-ok = kind_right L bs (omega (arith, c.if-bytes-eq0.false)) c.if-bytes-limits.false in
-    let listed = c.in_ok-listed_end.ensures in
-    let lists = c.in_ok-lists.ensures in
-    let rows : None ≡ first_fault L bs (list_end bs 1 4) (row_lists L.numbers bs (list_end bs 1 4) L.processes) =
-    subst (λ (n : ℕ). None ≡ first_fault L bs n (row_lists L.numbers bs n L.processes)) listed.ends.0 lists.told in
-    let e : c.in_ok-lists.lists.end ≡ rows_start L.numbers bs L.processes =
-    subst (λ (n : ℕ). c.in_ok-lists.lists.end ≡ list_start L.numbers bs n L.processes) listed.ends.0 lists.begins.1 in
-    let h = c.if-lists-bytes.true in
-    record { told = ap (λ n. Some (Length n)) e ∙ sym (at_surplus L bs Kind-ok (sym listed.told) (sym rows) (omega arith)); begins = tt }
+    let kind = kind_there L bs c.first.result c.in_ok-kind.field-0 c.in_ok-kind.ensures.ok_part c.first.ensures.value c.if-kind-limits.false in
+    let listed = c.in_ok-list.ensures in
+    let starts = c.in_ok-starts.ensures in
+    let rows = rows_there _ _ _ listed.moves in
+    let end = rows_end _ _ _ _ listed.moves starts.moves in
+    let h = c.if-cursor-bytes.true in
+    ap (λ n. Some (Length n)) end ∙ sym (at_surplus L bs kind (sym listed.told) (sym (starts.told ∙ rows)) (omega arith))
 
-pub returns : goal.returns
-returns c =
+pub returns-clause-told : goal.returns-clause-told
+returns-clause-told c =
     let L = c.args.limits in
     let bs = c.args.bytes.now in
-    let Kind-ok = kind_right L bs (omega (arith, c.if-bytes-eq0.false)) c.if-bytes-limits.false in
-    let listed = c.in_ok-listed_end.ensures in
-    let lists = c.in_ok-lists.ensures in
-    let rows : None ≡ first_fault L bs (list_end bs 1 4) (row_lists L.numbers bs (list_end bs 1 4) L.processes) =
-    subst (λ (n : ℕ). None ≡ first_fault L bs n (row_lists L.numbers bs n L.processes)) listed.ends.0 lists.told in
-    let e : c.in_ok-lists.lists.end ≡ rows_start L.numbers bs L.processes =
-    subst (λ (n : ℕ). c.in_ok-lists.lists.end ≡ list_start L.numbers bs n L.processes) listed.ends.0 lists.begins.1 in
-    let h = c.if-lists-bytes.false in
-    record {
-      told = sym (at_end L bs Kind-ok (sym listed.told) (sym rows) (omega arith));
-      begins = subst (λ (n : ℕ). (p : ℕ) → p < L.processes → get_or c.in_ok-lists.lists.starts p 0 ≡ list_start L.numbers bs n p) listed.ends.0 lists.begins.0;
-    }
+    let kind = kind_there L bs c.first.result c.in_ok-kind.field-0 c.in_ok-kind.ensures.ok_part c.first.ensures.value c.if-kind-limits.false in
+    let listed = c.in_ok-list.ensures in
+    let starts = c.in_ok-starts.ensures in
+    let rows = rows_there _ _ _ listed.moves in
+    let end = rows_end _ _ _ _ listed.moves starts.moves in
+    let h = c.if-cursor-bytes.false in
+    sym (at_end L bs kind (sym listed.told) (sym (starts.told ∙ rows)) (omega arith))

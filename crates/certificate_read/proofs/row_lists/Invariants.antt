@@ -1,0 +1,18 @@
+use Rattle.std.proofs.Common.{◌≡◌, ℕ, ◌-◌, ◌<◌, length, get_or}
+use Rattle.certificate_theory.specs.Fields.{row_lists}
+use Rattle.certificate_theory.specs.Content.{list_start}
+use Rattle.certificate_read.specs.Moves.{Moved, fault_at}
+use Rattle.certificate_read.proofs.row_lists.Given as goal
+
+abbrev pub invariant-loop-p : goal.invariant-loop-p
+invariant-loop-p l =
+    let o = l.fn.cursor in
+    let n = o.limits.numbers in
+    let m = o.limits.processes in
+    record {
+      count : l.p-end ≡ m;
+      eight : length l.starts ≡ 8;
+      begin : (q : ℕ) → q < l.p → get_or l.starts q 0 ≡ list_start n o.bytes.now o.at q;
+      moved : Moved o l.cursor (list_start n o.bytes.now o.at l.p);
+      left : fault_at l.cursor (row_lists n l.cursor.bytes.now l.cursor.at (m - l.p)) ≡ fault_at o (row_lists n o.bytes.now o.at m);
+    }
