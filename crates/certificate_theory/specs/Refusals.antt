@@ -1,13 +1,11 @@
 -- What each refusal of a certificate says: its number and its place. Assumes nothing.
 use Rattle.std.specs.Prelude.{ℕ, List, [], ◌∷◌}
+use Rattle.place.specs.declared.Place.{Place}
+use Rattle.place.specs.Places.{place}
 use Rattle.certificate_theory.specs.declared.clause.Clause.{Clause}
 use Rattle.certificate_theory.specs.declared.clause.Clause.TheVariants.{StartListed, NoListedClash, SuccessorsListed, RowsExact, ClassesEnabled, RanksFall}
-use Rattle.certificate_theory.specs.declared.refusal.Place.{Place}
 use Rattle.certificate_theory.specs.declared.refusal.Refusal.{Refusal}
 use Rattle.certificate_theory.specs.declared.refusal.Refusal.TheVariants.{Length, KindByte, State, Class, StartUnlisted, ListedClash, SuccessorUnlisted, RowsDiffer, ClassDisabled, RankRule}
-
-abbrev pub place : ℕ → ℕ → ℕ → Place
-place p i k = record { process = p; index = i; command = k }
 
 abbrev pub number : Refusal → ℕ
 number (Length i) = 21

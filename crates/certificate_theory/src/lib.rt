@@ -12,8 +12,9 @@ mod refusal;
 
 pub use clause::Clause;
 pub use limits::Limits;
+pub use place::Place;
 pub use point::{Point, Spot};
-pub use refusal::{Place, Refusal};
+pub use refusal::Refusal;
 
 impl Refusal {
     /// The answer number.
@@ -38,26 +39,25 @@ impl Refusal {
     pub fn place(self) -> Place
         ensures { result ≡ placed self }
     {
-        let (process, index, command) = match self {
-            Refusal::KindByte => (0, 0, 0),
-            Refusal::Length { at } | Refusal::State { at } | Refusal::Class { at } => (0, at, 0),
-            Refusal::StartUnlisted { state } | Refusal::ListedClash { state } => {
-                (0, state as usize, 0)
+        match self {
+            Refusal::KindByte => Place::new(0, 0, 0),
+            Refusal::Length { at } | Refusal::State { at } | Refusal::Class { at } => {
+                Place::new(0, at, 0)
             }
-            Refusal::SuccessorUnlisted { state, command } => (0, state as usize, command),
+            Refusal::StartUnlisted { state } | Refusal::ListedClash { state } => {
+                Place::new(0, state as usize, 0)
+            }
+            Refusal::SuccessorUnlisted { state, command } => {
+                Place::new(0, state as usize, command)
+            }
             Refusal::RowsDiffer { process, state } | Refusal::ClassDisabled { process, state } => {
-                (process, state as usize, 0)
+                Place::new(process, state as usize, 0)
             }
             Refusal::RankRule {
                 process,
                 state,
                 command,
-            } => (process, state as usize, command),
-        };
-        Place {
-            process,
-            index,
-            command,
+            } => Place::new(process, state as usize, command),
         }
     }
 }

@@ -46,11 +46,3 @@ pub enum Refusal {
         command: u8,
     },
 }
-
-/// Where a refusal points: a process, a byte or a state, and a command.
-#[derive(Clone, Copy)]
-pub struct Place {
-    pub process: u8,
-    pub index: usize,
-    pub command: u8,
-}
