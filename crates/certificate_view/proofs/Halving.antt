@@ -1,11 +1,6 @@
 -- Entries within a list, and which of them a look at the middle one rules out. Assumes nothing.
-use Rattle.std.proofs.Common.{◌≡◌, ℕ, ◌+◌, ◌*◌, ◌<◌, ◌≤◌, Bool, true, false, cond, ◌⊎◌, List, Some, None, Option, inl, inr, mul-le-mul_left, mul-add, arith}
+use Rattle.std.proofs.Common.{◌≡◌, ℕ, ◌+◌, ◌*◌, ◌<◌, ◌≤◌, ◌⊎◌, List, inl, inr, mul-le-mul_left, mul-add, arith}
 use Rattle.certificate_theory.specs.Lists.{state_of, Ascends}
-
--- a number that is there is read
-pub there : (b : Bool) (x : ℕ) (o : Option ℕ) → b ≡ true → o ≡ cond b (Some x) None → o ≡ None → ⊥
-there true x o t e n = let z : ◌≡◌ {A = ℕ} 0 1 = cc in omega arith
-there false x o t e n = let z : ◌≡◌ {A = ℕ} 0 1 = cc in omega arith
 
 pub entry_within : (w n i : ℕ) → i < n → w * i + w ≤ w * n
 entry_within w n i l =

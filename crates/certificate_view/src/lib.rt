@@ -5,59 +5,23 @@ ghost use Rattle.std.specs.Prelude.{◌≡◌, ℕ, ◌+◌, ◌*◌, ◌<◌, �
 ghost use Rattle.byte_numbers.specs.Numbers.{number_at};
 ghost use Rattle.rank.specs.Rows.{with_numbers};
 ghost use Rattle.rank_rule.specs.Certificate.{Listed, HasRow};
-ghost use Rattle.certificate_theory.specs.Lists.{state_of, Ascends, Found};
 ghost use Rattle.certificate_theory.specs.Points.{OnlyRow};
 ghost use Rattle.certificate_view.specs.Held.{certificate_of, RowPlace};
 
+mod entries;
 mod view;
 
 use byte_numbers::number_at;
+use entries::Entries;
 use rank::{Rank, Row};
 pub use view::View;
 
 // The number from `at` on, which is there.
-fn number(bytes: &[u8], at: usize) -> u32
+pub(crate) fn number(bytes: &[u8], at: usize) -> u32
     requires { at + 4 ≤ length bytes.now }
     ensures { result ≡ number_at bytes.now at }
 {
-    match number_at(bytes, at) {
-        Some(n) => n,
-        None => 0,
-    }
-}
-
-// The state at the head of the entry `i`.
-fn entry_state(bytes: &[u8], at: usize, width: usize, count: usize, i: usize) -> u32
-    requires wide { 4 ≤ width }
-    requires within { at + width * count ≤ length bytes.now }
-    requires inside { i < count }
-    ensures { result ≡ state_of bytes.now at width i }
-{
-    number(bytes, at + width * i)
-}
-
-// The entry of a state, by halving.
-fn find(bytes: &[u8], at: usize, width: usize, count: usize, wanted: u32) -> Option<usize>
-    requires wide { 4 ≤ width }
-    requires within { at + width * count ≤ length bytes.now }
-    requires ascends { Ascends bytes.now at width count }
-    ensures { Found bytes.now at width count wanted result }
-{
-    let mut low = 0;
-    let mut high = count;
-    while low < high {
-        let middle = low + (high - low) / 2;
-        let state = entry_state(bytes, at, width, count, middle);
-        if state == wanted {
-            return Some(middle);
-        }
-        if state < wanted {
-            low = middle + 1;
-        } else {
-            high = middle;
-        }
-    }
-    None
+    number_at(bytes, at).unwrap_or(0)
 }
 
 impl<'a> View<'a> {
@@ -65,8 +29,13 @@ impl<'a> View<'a> {
     pub fn is_listed(&self, state: u32) -> bool
         ensures { Decides result (Listed (certificate_of self.now) state) }
     {
-        let count = number(self.bytes, 1);
-        find(self.bytes, 5, 4, count as usize, state).is_some()
+        let listed = Entries {
+            bytes: self.bytes,
+            at: 5,
+            width: 4,
+            count: number(self.bytes, 1) as usize,
+        };
+        listed.find(state).is_some()
     }
 
     // The index at which the row of the process at the state begins.
@@ -77,12 +46,14 @@ impl<'a> View<'a> {
             return None;
         }
         let at = self.starts[process as usize];
-        let count = number(self.bytes, at);
-        let width = 5 + 4 * self.limits.numbers as usize;
-        match find(self.bytes, at + 4, width, count as usize, state) {
-            Some(i) => Some(at + 4 + width * i),
-            None => None,
-        }
+        let rows = Entries {
+            bytes: self.bytes,
+            at: at + 4,
+            width: 5 + 4 * self.limits.numbers as usize,
+            count: number(self.bytes, at) as usize,
+        };
+        let i = rows.find(state)?;
+        Some(rows.place(i))
     }
 
     /// Whether the process has a row at the state.

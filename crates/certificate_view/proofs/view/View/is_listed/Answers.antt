@@ -3,15 +3,11 @@ use Rattle.certificate_theory.specs.Lists.{Ascends}
 use Rattle.certificate_view.proofs.Rows.{view_listed, found_decides}
 use Rattle.certificate_view.proofs.view.View.is_listed.Goals as goal
 
-pub number-count-requires : goal.number-count-requires
-number-count-requires c = let w = (view_listed c.args.self.now).within in omega arith
-
-pub find-requires : goal.find-requires
-find-requires c =
-    let v = c.args.self.now in
-    let bs = v.bytes.now in
-    let l = view_listed v in
-    let e = sym c.number-count.ensures in
+pub invariant_of-listed : goal.invariant_of-listed
+invariant_of-listed c =
+    let bs = c.args.self.now.bytes.now in
+    let l = view_listed c.args.self.now in
+    let e = sym c.number.ensures in
     record {
       wide = omega arith;
       within = subst (λ (m : ℕ). 5 + 4 * m ≤ length bs) e l.within;
@@ -19,4 +15,4 @@ find-requires c =
     }
 
 pub returns : goal.returns
-returns c = found_decides c.args.self.now c.args.state c.number-count.result c.find.result c.is_some.result c.number-count.ensures c.is_some.ensures c.find.ensures
+returns c = found_decides c.args.self.now c.args.state c.number.result c.find.result c.is_some.result c.number.ensures c.is_some.ensures c.find.ensures

@@ -1,8 +1,0 @@
-use Rattle.std.proofs.Common.{ℕ, ◌<◌}
-use Rattle.rank_rule.specs.Rule.{ClassesEnabledAt}
-use Rattle.certificate_view.specs.Held.{certificate_of}
-use Rattle.certificate_check.proofs.classes.class_failure.Given as goal
-
-abbrev pub invariant-loop-process : goal.invariant-loop-process
-invariant-loop-process g l =
-    (q : ℕ) → q < l.process → ClassesEnabledAt (g.S.System.meaning l.initial.system) (certificate_of l.view) q l.state
