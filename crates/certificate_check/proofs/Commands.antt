@@ -1,5 +1,7 @@
 -- Steps of the search for a command that breaks the rank rule. Assumes nothing.
-use Rattle.std.proofs.Common.{◌≡◌, ℕ, zero, suc, ◌<◌, ◌≤◌, Bool, true, false, ◌⊎◌, ◌↔◌, List, length, get_or, replicate, Some, None, Decides, Option, sym, refl, ◌∙◌, subst, inl, inr, arith}
+use Rattle.std.proofs.Common.{◌≡◌, ℕ, zero, suc, ◌<◌, ◌≤◌, Bool, true, ◌⊎◌, ◌↔◌, List, length, get_or, replicate, Some, None, Decides, Option, sym, refl, ◌∙◌, subst, inl, inr, arith}
+use Rattle.std.specs.Option.{MatchOption}
+use Rattle.std.specs.Prelude.{IsTrue}
 use Rattle.system.specs.Transitions.{Waits}
 use Rattle.system.specs.Justice.{FairSystem, Lawful}
 use Rattle.rank.specs.declared.Row.{Row}
@@ -32,33 +34,28 @@ no_successor S law s k h = by (S.steps.next s k) refl
     by (Some t) e = let b = (law.steps.next_below s k t e).1 in absurd (let f : ⊥ = omega arith in f)
     by None e = e
 
-falls_same : (K : Kind) (row after : Row (List ℕ)) (T U : Type 0) → (U → T) → Falls K row after T → Falls K row after U
-falls_same K row after T U back (inl below) = inl below
-falls_same K row after T U back (inr (same, one, free)) = inr (same, one, λ u. free (back u))
-
 module _ (K : Kind) (S : FairSystem) (C : Certificate) (p : ℕ) (row : Row (List ℕ)) (k : ℕ) where
   -- what the rule says of the one row at t
-  pub falls_decides : (t : ℕ) (after : Row (List ℕ)) (taken r : Bool) → OnlyRow C p t after → Waits S.steps p t
-      → Decides taken (S.class k ≡ Some row.class) → (r ≡ true ↔ Falls K row after (taken ≡ true))
+  pub falls_decides : (t : ℕ) (after : Row (List ℕ)) (taken : Option ℕ) (r : Bool) → OnlyRow C p t after → Waits S.steps p t
+      → taken ≡ S.class k → (r ≡ true ↔ Falls K row after (taken ≡ Some row.class))
       → Decides r (Waits S.steps p t → FallsTo K S C p row k t)
-  falls_decides t after taken r only waits d f = (
-    (λ yes w. (after, only.0, falls_same K row after (taken ≡ true) (S.class k ≡ Some row.class) d.1 (f.0 yes))),
-    (λ h. let (other, at, falls) = h waits in
-        f.1 (falls_same K row after (S.class k ≡ Some row.class) (taken ≡ true) d.0 (subst (λ x. Falls K row x (S.class k ≡ Some row.class)) (only.1 other at) falls))),
-  )
+  falls_decides t after taken r only waits same told =
+      let f = subst (λ (c : Option ℕ). r ≡ true ↔ Falls K row after (c ≡ Some row.class)) same told in (
+        (λ yes w. (after, only.0, f.0 yes)),
+        (λ h. let (other, at, falls) = h waits in f.1 (subst (λ x. Falls K row x (S.class k ≡ Some row.class)) (only.1 other at) falls)),
+      )
 
-  pub no_row_decides : (t : ℕ) → ¬ HasRow C p t → Waits S.steps p t → Decides false (Waits S.steps p t → FallsTo K S C p row k t)
-  no_row_decides t none waits = (
-    (λ e. let z : ◌≡◌ {A = ℕ} 0 1 = cc in absurd (let f : ⊥ = omega arith in f)),
-    (λ h. let (other, at, _) = h waits in absurd (none (other, at))),
-  )
+  pub no_row_falls : (t : ℕ) → ¬ HasRow C p t → Waits S.steps p t → ¬ (Waits S.steps p t → FallsTo K S C p row k t)
+  no_row_falls t none waits h = let (other, at, _) = h waits in none (other, at)
 
-  pub falls_by : (t : ℕ) (r : Bool) → Decides r (Waits S.steps p t → FallsTo K S C p row k t) → Decides r (FallsBy K S C p row k (Some t))
-  falls_by t r d = (
+  pub falls_by : (to : Option ℕ) (r : Bool) {Q : ℕ → Type 0} → MatchOption to (IsTrue r) Q
+      → ((t : ℕ) → Q t → Decides r (Waits S.steps p t → FallsTo K S C p row k t)) → Decides r (FallsBy K S C p row k to)
+  falls_by (Some t) r q decides = let d = decides t q in (
     (λ yes u e w. let same : t ≡ u = cc in
         subst (FallsTo K S C p row k) same (d.0 yes (subst (λ (x : ℕ). Waits S.steps p x) (sym same) w))),
     (λ h. d.1 (λ w. h t refl w)),
   )
+  falls_by None r passes decides = ((λ _ t e. let z : ◌≡◌ {A = ℕ} 0 1 = cc in absurd (let f : ⊥ = omega arith in f)), (λ _. passes))
 
 -- the one row of a process at a state
 pub row_command : (K : Kind) (S : FairSystem) (C : Certificate) (p s : ℕ) (row : Row (List ℕ)) (to : List (Option ℕ)) (r : Option ℕ)

@@ -1,3 +1,3 @@
-pub mod Marking
 pub mod Commands
+pub mod Rows
 pub mod Arms

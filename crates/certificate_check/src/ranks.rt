@@ -6,11 +6,10 @@ ghost use Rattle.certificate_theory.specs.Points.{LeastSpot};
 ghost use Rattle.certificate_view.specs.Held.{certificate_of};
 ghost use Rattle.certificate_check.specs.Commands.{FallsBy, RanksFallBy, LeastCommand};
 
-use super::clauses::waits;
+use super::judging::Judging;
 use certificate_theory::Spot;
-use certificate_view::View;
 use rank::{Rank, Row};
-use system::{System, has_class};
+use system::{System, waits};
 
 // The successors of the state, by command. Each is asked for once.
 fn successors_of<S: System>(system: &S, state: u32) -> [Option<u32>; 64]
@@ -23,104 +22,52 @@ fn successors_of<S: System>(system: &S, state: u32) -> [Option<u32>; 64]
     successors
 }
 
-// Where the process waits in the state `to`, the rule lets the command lead there from the row.
-fn falls<R: Rank, S: System>(
-    system: &S,
-    view: &View,
-    process: u8,
-    row: &Row<R>,
-    command: u8,
-    to: u32,
-) -> bool
-    requires { view.now.limits.numbers ≡ R.kind.numbers }
-    ensures { Decides result (Waits (S.meaning system.now).steps process to → FallsTo R.kind (S.meaning system.now) (certificate_of view.now) process (with_numbers R.value row.now) command to) }
-{
-    if !waits(system, process, to) {
-        return true;
-    }
-    let taken = has_class(system, command, row.class);
-    match view.row::<R>(process, to) {
-        Some(after) => row.falls_to(&after, taken),
-        None => false,
-    }
-}
-
-// The same where the command may lead nowhere.
-fn falls_by<R: Rank, S: System>(
-    system: &S,
-    view: &View,
-    process: u8,
-    row: &Row<R>,
-    command: u8,
-    to: Option<u32>,
-) -> bool
-    requires { view.now.limits.numbers ≡ R.kind.numbers }
-    ensures { Decides result (FallsBy R.kind (S.meaning system.now) (certificate_of view.now) process (with_numbers R.value row.now) command to) }
-{
-    match to {
-        Some(to) => falls(system, view, process, row, command, to),
-        None => true,
-    }
-}
-
-// The least command by which the rule is broken from the row.
-fn row_failure<R: Rank, S: System>(
-    system: &S,
-    view: &View,
-    process: u8,
-    row: &Row<R>,
-    successors: &[Option<u32>; 64],
-) -> Option<u8>
-    requires { view.now.limits.numbers ≡ R.kind.numbers }
-    ensures { LeastCommand (λ k. FallsBy R.kind (S.meaning system.now) (certificate_of view.now) process (with_numbers R.value row.now) k (slice_index_or successors.now k None)) result }
-{
-    for command in 0..64u8 {
-        if !falls_by(
-            system,
-            view,
-            process,
-            row,
-            command,
-            successors[command as usize],
-        ) {
-            return Some(command);
+impl<'a, 'b, R: Rank, S: System> Judging<'a, 'b, R, S> {
+    // Where the process waits in the state `to`, the rule lets the command lead there from the row.
+    fn falls(&self, process: u8, row: &Row<R>, command: u8, to: u32) -> bool
+        ensures { Decides result (Waits (S.meaning self.now.system.now).steps process to → FallsTo R.kind (S.meaning self.now.system.now) (certificate_of self.now.view) process (with_numbers R.value row.now) command to) }
+    {
+        if !waits(self.system, process, to) {
+            return true;
         }
+        let taken = self.system.class_of(command);
+        self.row(process, to)
+            .is_some_and(|after| row.falls_to(&after, taken))
     }
-    None
-}
 
-// The least command by which the rule is broken from the row of the process at the state, if it has one.
-fn process_failure<R: Rank, S: System>(
-    system: &S,
-    view: &View,
-    process: u8,
-    state: u32,
-    successors: &[Option<u32>; 64],
-) -> Option<u8>
-    requires { view.now.limits.numbers ≡ R.kind.numbers }
-    ensures { LeastCommand (λ k. RanksFallBy R.kind (S.meaning system.now) (certificate_of view.now) process state k (slice_index_or successors.now k None)) result }
-{
-    match view.row::<R>(process, state) {
-        Some(row) => row_failure(system, view, process, &row, successors),
-        None => None,
-    }
-}
-
-// Ranks fall from each row.
-pub(crate) fn rank_failure<R: Rank, S: System>(
-    system: &S,
-    view: &View,
-    state: u32,
-    limit: u8,
-) -> Option<Spot>
-    requires { view.now.limits.numbers ≡ R.kind.numbers }
-    ensures { LeastSpot (λ p k. RanksFallAt R.kind (S.meaning system.now) (certificate_of view.now) p state k) limit result }
-{
-    let successors = successors_of(system, state);
-    for process in 0..limit {
-        if let Some(command) = process_failure::<R, S>(system, view, process, state, &successors) {
-            return Some(Spot { process, command });
+    // The least command by which the rule is broken from the row.
+    fn row_failure(&self, process: u8, row: &Row<R>, successors: &[Option<u32>; 64]) -> Option<u8>
+        ensures { LeastCommand (λ k. FallsBy R.kind (S.meaning self.now.system.now) (certificate_of self.now.view) process (with_numbers R.value row.now) k (slice_index_or successors.now k None)) result }
+    {
+        for (command, to) in successors.iter().enumerate() {
+            let command = command as u8;
+            if let Some(to) = *to {
+                if !self.falls(process, row, command, to) {
+                    return Some(command);
+                }
+            }
         }
+        None
     }
-    None
+
+    // The least command by which the rule is broken from the row of the process at the state, if it has one.
+    fn process_failure(&self, process: u8, state: u32, successors: &[Option<u32>; 64]) -> Option<u8>
+        ensures { LeastCommand (λ k. RanksFallBy R.kind (S.meaning self.now.system.now) (certificate_of self.now.view) process state k (slice_index_or successors.now k None)) result }
+    {
+        let row = self.row(process, state)?;
+        self.row_failure(process, &row, successors)
+    }
+
+    // Ranks fall from each row.
+    pub(crate) fn rank_failure(&self, state: u32, limit: u8) -> Option<Spot>
+        ensures { LeastSpot (λ p k. RanksFallAt R.kind (S.meaning self.now.system.now) (certificate_of self.now.view) p state k) limit result }
+    {
+        let successors = successors_of(self.system, state);
+        for process in 0..limit {
+            if let Some(command) = self.process_failure(process, state, &successors) {
+                return Some(Spot { process, command });
+            }
+        }
+        None
+    }
 }

@@ -4,16 +4,16 @@ use Rattle.certificate_theory.specs.Judging.{HoldsAt}
 use Rattle.certificate_theory.specs.Points.{LeastSpot, LeastPoint}
 use Rattle.certificate_theory.proofs.Points.{limit_after, kept_point, new_point}
 use Rattle.certificate_view.specs.Held.{certificate_of}
-use Rattle.certificate_check.proofs.least_failure.Goals as goal
-use Rattle.certificate_check.proofs.least_failure.Goals.{in-Some, in_default}
+use Rattle.certificate_check.proofs.judging.Judging.least_failure.Goals as goal
+use Rattle.certificate_check.proofs.judging.Judging.least_failure.Goals.{in-Some, in_default}
 
 pub loop-state-init : goal.loop-state-init
 loop-state-init g c = (c.processes-limit.ensures, λ p s k below h. absurd (let f : ⊥ = omega arith in f))
 
 pub loop-state-preserved : goal.loop-state-preserved
 loop-state-preserved g c =
-    let m = g.S.System.meaning c.args.system.now in
-    let H = HoldsAt g.R.Rank.kind m (certificate_of c.args.view.now) c.args.clause in
+    let m = g.S.System.meaning c.args.self.now.system.now in
+    let H = HoldsAt g.R.Rank.kind m (certificate_of c.args.self.now.view) c.args.clause in
     let P = m.steps.processes in
     let n = c.loop-state.state in
     let i = c.loop-state.invariant in
@@ -33,8 +33,8 @@ loop-state-preserved g c =
 
 pub returns : goal.returns
 returns g c =
-    let m = g.S.System.meaning c.args.system.now in
-    let H = HoldsAt g.R.Rank.kind m (certificate_of c.args.view.now) c.args.clause in
+    let m = g.S.System.meaning c.args.self.now.system.now in
+    let H = HoldsAt g.R.Rank.kind m (certificate_of c.args.self.now.view) c.args.clause in
     let e = c.states-state-end.ensures in
     let k = c.loop-state.auto.state-end in
     let all : c.loop-state.state ≡ m.steps.states = omega (arith, c.loop-state-test.false) in
