@@ -49,6 +49,7 @@ impl<'a, 'b, R: Rank, S: System> Judging<'a, 'b, R, S> {
             return None;
         }
         for command in 0..self.system.commands() {
+            // Kept as a test of its own: a closure that captures `self` gets no contract from its body.
             if let Some(to) = self.system.successor(state, command) {
                 if !self.view.is_listed(to) {
                     return Some(Spot {

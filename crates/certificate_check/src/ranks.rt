@@ -16,6 +16,7 @@ fn successors_of<S: System>(system: &S, state: u32) -> [Option<u32>; 64]
     ensures { (k : ℕ) → slice_index_or result k None ≡ (S.meaning system.now).steps.next state k }
 {
     let mut successors = [None; 64];
+    // Kept by index: of a part of an array that is written through `iter_mut` a proof knows nothing afterwards.
     for command in 0..system.commands() {
         successors[command as usize] = system.successor(state, command);
     }
@@ -41,6 +42,7 @@ impl<'a, 'b, R: Rank, S: System> Judging<'a, 'b, R, S> {
     {
         for (command, to) in successors.iter().enumerate() {
             let command = command as u8;
+            // Kept as a test of its own: a closure that captures `self` gets no contract from its body.
             if let Some(to) = *to {
                 if !self.falls(process, row, command, to) {
                     return Some(command);

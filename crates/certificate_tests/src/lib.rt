@@ -13,14 +13,14 @@ mod tests {
     // The number and the place of the answer: process, index, command; all 0 for acceptance.
     type Answer = (u8, u8, usize, u8);
 
+    // No answer, where the shape of the lock is out of bounds.
+    const NO_LOCK: Answer = (255, 0, 0, 0);
+
     fn told(res: Result<(), Refusal>) -> Answer {
-        match res {
-            Ok(()) => (0, 0, 0, 0),
-            Err(refusal) => {
-                let place = refusal.place();
-                (refusal.number(), place.process, place.index, place.command)
-            }
-        }
+        res.err().map_or((0, 0, 0, 0), |refusal| {
+            let place = refusal.place();
+            (refusal.number(), place.process, place.index, place.command)
+        })
     }
 
     // One process: idle, try, crit and back. Class 0 has the last two commands, class 1 none.
@@ -89,17 +89,17 @@ mod tests {
         1, 0, 0, 0, 0, 0, 0, 0, 0,
     ];
 
-    fn ring(classes: u8, bytes: &[u8]) -> Answer {
-        let Some(shape) = Shape::new(1, classes, 3, 3, 0) else {
-            return (255, 0, 0, 0);
-        };
-        let lock = Table {
-            shape,
+    fn ring_lock(classes: u8) -> Option<Table<'static>> {
+        Some(Table {
+            shape: Shape::new(1, classes, 3, 3, 0)?,
             successors: &RING_SUCCESSORS,
             classed: &RING_CLASSES,
             regions: &RING_REGIONS,
-        };
-        told(check_certificate(&lock, bytes))
+        })
+    }
+
+    fn ring(classes: u8, bytes: &[u8]) -> Answer {
+        ring_lock(classes).map_or(NO_LOCK, |lock| told(check_certificate(&lock, bytes)))
     }
 
     // The byte at `at` of the ring's certificate is replaced.
@@ -115,10 +115,7 @@ mod tests {
     fn greatest_count(at: usize) -> Answer {
         let mut bytes = RING;
         if at < 27 {
-            bytes[at] = 255;
-            bytes[at + 1] = 255;
-            bytes[at + 2] = 255;
-            bytes[at + 3] = 255;
+            bytes[at..at + 4].fill(255);
         }
         ring(1, &bytes)
     }
@@ -141,15 +138,7 @@ mod tests {
 
     #[test]
     fn another_kind_is_refused(rt: HostRuntime) -> Result<(), Fail> {
-        let Some(shape) = Shape::new(1, 1, 3, 3, 0) else {
-            return Err(Fail::new("shape"));
-        };
-        let lock = Table {
-            shape,
-            successors: &RING_SUCCESSORS,
-            classed: &RING_CLASSES,
-            regions: &RING_REGIONS,
-        };
+        let lock = ring_lock(1).ok_or_else(|| Fail::new("shape"))?;
         assert_eq!(rt;
             told(check_certificate_of::<Single, Table>(&lock, &RING)),
             (0, 0, 0, 0)
@@ -164,12 +153,12 @@ mod tests {
     #[test]
     fn a_cut_field_is_told(rt: HostRuntime) {
         for n in 0..30usize {
-            let mut begins = 0;
-            for at in &RING_FIELDS {
-                if *at <= n {
-                    begins = *at;
-                }
-            }
+            let begins = RING_FIELDS
+                .iter()
+                .copied()
+                .rev()
+                .find(|at| *at <= n)
+                .unwrap_or(0);
             assert_eq!(rt; ring(1, &RING[0..n]), (21, 0, begins, 0));
         }
     }
@@ -207,18 +196,15 @@ mod tests {
 
     // Two processes in states 0 and 1, which both try in both unless the regions say otherwise; command 0 leads from 0 to 1, command 1 back, both of class 0.
     fn pair_of_states(regions: &[Region], bytes: &[u8]) -> Answer {
-        let Some(shape) = Shape::new(2, 2, 2, 2, 0) else {
-            return (255, 0, 0, 0);
-        };
-        let successors = [Some(1), None, None, Some(0)];
-        let classed = [Some(0), Some(0)];
-        let lock = Table {
-            shape,
-            successors: &successors,
-            classed: &classed,
-            regions,
-        };
-        told(check_certificate(&lock, bytes))
+        Shape::new(2, 2, 2, 2, 0).map_or(NO_LOCK, |shape| {
+            let lock = Table {
+                shape,
+                successors: &[Some(1), None, None, Some(0)],
+                classed: &[Some(0), Some(0)],
+                regions,
+            };
+            told(check_certificate(&lock, bytes))
+        })
     }
 
     // Rows of the two processes at states 0 and 1, with these classes and ranks of process 0 and process 1.
