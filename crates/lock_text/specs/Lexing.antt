@@ -9,6 +9,7 @@ use Rattle.lock_text.specs.declared.lexer.Run.{Run}
 use Rattle.lock_text.specs.declared.lexer.Run.TheVariants.{Blanks, Digits, Name}
 use Rattle.lock_text.specs.declared.token.Mark.{Mark}
 use Rattle.lock_text.specs.declared.token.Placed.{Placed}
+use Rattle.lock_text.specs.declared.token.Token.{Token}
 use Rattle.lock_text.specs.declared.token.Mark.TheVariants.{Open, Close, Plus, Minus, Assign, Equal, NotEqual, Less, LessEqual, Colon, Semicolon, Comma}
 
 -- The byte belongs to such a run of bytes.
@@ -38,14 +39,14 @@ pub record RunTo (f : ℕ → Bool) (t : List ℕ) (a e : ℕ) : Type 0 where
   pub stops : e < length t → f (slice_index t e) ≡ false
 
 -- The token that stands in t at a, or that none does.
-abbrev pub TokenFrom : List ℕ → ℕ → Option Placed → Type 0
+abbrev pub TokenFrom : List ℕ → ℕ → Option (Placed Token) → Type 0
 TokenFrom t a (Some p) = (p.start ≡ a) × TokenAt t a (content p.token) p.end
 TokenFrom t a None = (l : Lexeme) (e : ℕ) → ¬ TokenAt t a l e
 
 -- What the lexer answers from the place a on: a text that is too long is refused before anything is looked at;
 -- else the next token with its place, or that only blanks are left, or the first byte where no token stands. The
 -- lexer has no other refusal.
-abbrev pub Lexes : List ℕ → ℕ → Result (Option Placed) TextRefusal → Type 0
+abbrev pub Lexes : List ℕ → ℕ → Result (Option (Placed Token)) TextRefusal → Type 0
 Lexes t a (Err TooLong) = max_text < length t
 Lexes t a (Err (Spelling s)) = (length t ≤ max_text) × Misspelt t a s
 Lexes t a (Err (Unwanted s)) = ⊥

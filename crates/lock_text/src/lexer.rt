@@ -41,11 +41,12 @@ fn belongs(run: Run, byte: u8) -> bool
 pub(crate) fn run_end(text: &[u8], from: usize, run: Run) -> usize
     ensures { RunTo (in_run run) text.now from result }
 {
-    let mut end = from;
-    while end < text.len() && belongs(run, text[end]) {
-        end += 1;
-    }
-    end
+    let passing = text
+        .iter()
+        .skip(from)
+        .take_while(|&&byte| belongs(run, byte))
+        .count();
+    from + passing
 }
 
 /// The longest mark that begins with the byte; `followed` says whether `=` stands behind it.
@@ -92,73 +93,83 @@ pub(crate) fn reserved(bytes: &[u8]) -> Option<Word>
     }
 }
 
-/// The name or reserved word that begins with the letter at `start`.
-fn name_at<'a>(text: &'a [u8], start: usize) -> Option<Placed<'a>>
-    requires inside { start < length text.now }
-    requires letter { is_letter (slice_index text.now start) ≡ true }
-    ensures { TokenFrom text.now start result }
-{
-    let end = run_end(text, start, Run::Name);
-    if end - start > MAX_NAME {
-        return None;
-    }
-    let bytes = &text[start..end];
-    let token = match reserved(bytes) {
-        Some(word) => Token::Word(word),
-        None => Token::Name(bytes),
-    };
-    Some(Placed { token, start, end })
-}
-
-/// The number that begins with the digit at `start`.
-#[tactic(auto, using(crate::proofs::Shapes::number_ends, crate::proofs::Shapes::number_token, crate::proofs::Shapes::long_number, crate::proofs::Shapes::ends_none))]
-fn number_at<'a>(text: &'a [u8], start: usize) -> Option<Placed<'a>>
-    requires inside { start < length text.now }
-    requires digit { is_digit (slice_index text.now start) ≡ true }
-    ensures { TokenFrom text.now start result }
-{
-    let end = run_end(text, start, Run::Digits);
-    if end - start > MAX_DIGITS {
-        return None;
-    }
-    let token = Token::Number(&text[start..end]);
-    Some(Placed { token, start, end })
-}
-
 /// Whether `=` stands at the place.
 fn equals_at(text: &[u8], at: usize) -> bool
     ensures { result ≡ (slice_index text.now at == 0x3d) }
 {
-    at < text.len() && text[at] == b'='
+    text.get(at) == Some(&b'=')
 }
 
-/// The mark at `start`, where no letter and no digit stands.
-fn mark_at<'a>(text: &'a [u8], start: usize) -> Option<Placed<'a>>
-    requires inside { start < length text.now }
-    requires no_letter { is_letter (slice_index text.now start) ≡ false }
-    requires no_digit { is_digit (slice_index text.now start) ≡ false }
-    ensures { TokenFrom text.now start result }
-{
-    let mark = mark_of(text[start], equals_at(text, start + 1))?;
-    let token = Token::Mark(mark);
-    let end = start + mark.width();
-    Some(Placed { token, start, end })
+/// A byte of a text where a token may begin.
+#[derive(Clone, Copy)]
+struct Beginning<'a> {
+    text: &'a [u8],
+    start: usize,
+    ghost inside: { start < length text.now },
 }
 
-/// The token at `start`, where some byte stands.
-fn token_at<'a>(text: &'a [u8], start: usize) -> Option<Placed<'a>>
-    requires { start < length text.now }
-    ensures { TokenFrom text.now start result }
-{
-    match text[start] as char {
-        'a'..='z' | 'A'..='Z' => name_at(text, start),
-        '0'..='9' => number_at(text, start),
-        _ => mark_at(text, start),
+impl<'a> Beginning<'a> {
+    /// The name or reserved word that begins with the letter here.
+    fn name(self) -> Option<Placed<Token<'a>>>
+        requires { is_letter (slice_index self.text.now self.start) ≡ true }
+        ensures { TokenFrom self.entry.text.now self.entry.start result }
+    {
+        let Beginning { text, start } = self;
+        let end = run_end(text, start, Run::Name);
+        if end - start > MAX_NAME {
+            return None;
+        }
+        let bytes = &text[start..end];
+        // Kept as a match: a function that is passed on and answers a `Token`, which has a lifetime, gets no proof.
+        let token = match reserved(bytes) {
+            Some(word) => Token::Word(word),
+            None => Token::Name(bytes),
+        };
+        Some(Placed { token, start, end })
+    }
+
+    /// The number that begins with the digit here.
+    #[tactic(auto, using(crate::proofs::Shapes::number_ends, crate::proofs::Shapes::number_token, crate::proofs::Shapes::long_number, crate::proofs::Shapes::ends_none))]
+    fn number(self) -> Option<Placed<Token<'a>>>
+        requires { is_digit (slice_index self.text.now self.start) ≡ true }
+        ensures { TokenFrom self.entry.text.now self.entry.start result }
+    {
+        let Beginning { text, start } = self;
+        let end = run_end(text, start, Run::Digits);
+        if end - start > MAX_DIGITS {
+            return None;
+        }
+        let token = Token::Number(&text[start..end]);
+        Some(Placed { token, start, end })
+    }
+
+    /// The mark here, where no letter and no digit stands.
+    fn mark(self) -> Option<Placed<Token<'a>>>
+        requires no_letter { is_letter (slice_index self.text.now self.start) ≡ false }
+        requires no_digit { is_digit (slice_index self.text.now self.start) ≡ false }
+        ensures { TokenFrom self.entry.text.now self.entry.start result }
+    {
+        let Beginning { text, start } = self;
+        let mark = mark_of(text[start], equals_at(text, start + 1))?;
+        let token = Token::Mark(mark);
+        let end = start + mark.width();
+        Some(Placed { token, start, end })
+    }
+
+    /// The token here.
+    fn token(self) -> Option<Placed<Token<'a>>>
+        ensures { TokenFrom self.entry.text.now self.entry.start result }
+    {
+        match self.text[self.start] as char {
+            'a'..='z' | 'A'..='Z' => self.name(),
+            '0'..='9' => self.number(),
+            _ => self.mark(),
+        }
     }
 }
 
 /// The next token from a place on. There is none where only blanks are left, or nothing.
-pub fn next_token<'a>(text: &'a [u8], from: usize) -> Result<Option<Placed<'a>>, TextRefusal>
+pub fn next_token<'a>(text: &'a [u8], from: usize) -> Result<Option<Placed<Token<'a>>>, TextRefusal>
     ensures { Lexes text.now from result }
 {
     if text.len() > MAX_TEXT {
@@ -168,10 +179,8 @@ pub fn next_token<'a>(text: &'a [u8], from: usize) -> Result<Option<Placed<'a>>,
     if start >= text.len() {
         return Ok(None);
     }
-    match token_at(text, start) {
-        Some(token) => Ok(Some(token)),
-        None => Err(TextRefusal::Spelling(start)),
-    }
+    let token = Beginning { text, start }.token();
+    Ok(Some(token.ok_or(TextRefusal::Spelling(start))?))
 }
 
 /// How many tokens the text has, where every byte belongs to a token or is a blank.

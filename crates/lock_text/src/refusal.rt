@@ -49,14 +49,14 @@ impl TextRefusal {
     {
         match self {
             TextRefusal::TooLong => 0,
-            TextRefusal::Spelling(at) => *at,
-            TextRefusal::Unwanted(at) => *at,
-            TextRefusal::OutOfRange(at) => *at,
-            TextRefusal::Declared(at) => *at,
-            TextRefusal::Unknown(at) => *at,
-            TextRefusal::AssignedTwice(at) => *at,
-            TextRefusal::PastLimit(at) => *at,
-            TextRefusal::TooManyStates(at) => *at,
+            TextRefusal::Spelling(at)
+            | TextRefusal::Unwanted(at)
+            | TextRefusal::OutOfRange(at)
+            | TextRefusal::Declared(at)
+            | TextRefusal::Unknown(at)
+            | TextRefusal::AssignedTwice(at)
+            | TextRefusal::PastLimit(at)
+            | TextRefusal::TooManyStates(at) => *at,
         }
     }
 }

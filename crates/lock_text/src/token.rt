@@ -58,10 +58,10 @@ pub enum Token<'a> {
     Mark(Mark),
 }
 
-/// A token and the place where it stands: from `start` up to `end`.
+/// A token, or what it is to its reader, and the place where it stands: from `start` up to `end`.
 #[derive(Clone, Copy)]
-pub struct Placed<'a> {
-    pub token: Token<'a>,
+pub struct Placed<T> {
+    pub token: T,
     pub start: usize,
     pub end: usize,
 }
