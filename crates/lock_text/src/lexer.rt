@@ -144,6 +144,7 @@ impl<'a> Beginning<'a> {
     }
 
     /// The mark here, where no letter and no digit stands.
+    #[tactic(auto, using(crate::proofs::Marks::no_mark))]
     fn mark(self) -> Option<Placed<Token<'a>>>
         requires no_letter { is_letter (slice_index self.text.now self.start) ≡ false }
         requires no_digit { is_digit (slice_index self.text.now self.start) ≡ false }
@@ -189,6 +190,7 @@ pub fn count_tokens(text: &[u8]) -> Result<usize, TextRefusal>
 {
     let mut at = 0;
     let mut count = 0;
+    // Kept as a loop: an iterator over tokens would be a struct with laws, and an end after a refusal, for this one use.
     while let Some(token) = next_token(text, at)? {
         at = token.end;
         count += 1;
