@@ -7,22 +7,19 @@ ghost use Rattle.answer.specs.Line.{Answers, line};
 use lock_text::{TextRefusal, count_tokens};
 use std::fmt;
 
-/// The answer to a text, which is printed as one line.
+/// The answer to a text, which is printed as one line: of how many tokens it is made, or why it is refused.
 #[derive(Clone, Copy)]
-pub enum Answer {
-    /// The text is made of so many tokens.
-    Tokens(usize),
-    /// The text is refused.
-    Refused(TextRefusal),
+pub struct Answer {
+    pub tokens: Result<usize, TextRefusal>,
 }
 
 impl fmt::Display for Answer {
     ghost output = { λ a. Some (line a) };
 
     fn fmt<W: fmt::Write>(&self, f: &mut fmt::Formatter<W>) -> fmt::Result {
-        match self {
-            Answer::Tokens(count) => write!(f, "tokens {count}"),
-            Answer::Refused(refusal) => {
+        match self.tokens {
+            Ok(count) => write!(f, "tokens {count}"),
+            Err(refusal) => {
                 let number = refusal.number();
                 let index = refusal.index();
                 write!(f, "refused {number} {index}")
@@ -35,8 +32,7 @@ impl fmt::Display for Answer {
 pub fn answer_to(text: &[u8]) -> Answer
     ensures { Answers text.now result }
 {
-    match count_tokens(text) {
-        Ok(count) => Answer::Tokens(count),
-        Err(refusal) => Answer::Refused(refusal),
+    Answer {
+        tokens: count_tokens(text),
     }
 }

@@ -3,7 +3,7 @@ ghost use Rattle.std.specs.Prelude.{◌≡◌};
 ghost use Rattle.lock_text.specs.Refusals.{refusal_number, refusal_index};
 
 /// The first fault of a lock text, with the index of the byte where it stands.
-#[derive(Clone, Copy)]
+#[derive(Clone, Copy, Debug, PartialEq, Eq)]
 pub enum TextRefusal {
     /// The text has more than 16,384 bytes.
     TooLong,

@@ -3,7 +3,7 @@ ghost use Rattle.std.specs.Prelude.{◌≡◌, length};
 ghost use Rattle.lock_text.specs.Spelling.{mark_spelling};
 
 /// The reserved words.
-#[derive(Clone, Copy)]
+#[derive(Clone, Copy, Debug, PartialEq, Eq)]
 pub enum Word {
     Procs,
     Vars,
@@ -21,7 +21,7 @@ pub enum Word {
 }
 
 /// The marks: `( ) + - = == != < <= : ; ,`
-#[derive(Clone, Copy)]
+#[derive(Clone, Copy, Debug, PartialEq, Eq)]
 pub enum Mark {
     Open,
     Close,
@@ -50,7 +50,7 @@ impl Mark {
 }
 
 /// A token. Names and numbers borrow their spelling from the text.
-#[derive(Clone, Copy)]
+#[derive(Clone, Copy, Debug, PartialEq, Eq)]
 pub enum Token<'a> {
     Name(&'a [u8]),
     Number(&'a [u8]),
@@ -59,7 +59,7 @@ pub enum Token<'a> {
 }
 
 /// A token, or what it is to its reader, and the place where it stands: from `start` up to `end`.
-#[derive(Clone, Copy)]
+#[derive(Clone, Copy, Debug, PartialEq, Eq)]
 pub struct Placed<T> {
     pub token: T,
     pub start: usize,
