@@ -1,3 +1,4 @@
 pub mod Shapes
 pub mod Marks
 pub mod One
+pub mod Runs

@@ -41,11 +41,8 @@ fn belongs(run: Run, byte: u8) -> bool
 pub(crate) fn run_end(text: &[u8], from: usize, run: Run) -> usize
     ensures { RunTo (in_run run) text.now from result }
 {
-    let passing = text
-        .iter()
-        .skip(from)
-        .take_while(|&&byte| belongs(run, byte))
-        .count();
+    let rest = &text[from.min(text.len())..];
+    let passing = rest.iter().take_while(|&&byte| belongs(run, byte)).count();
     from + passing
 }
 
