@@ -99,23 +99,18 @@ mod tests {
     ];
 
     // The next token from `from` on, which has to be there.
-    fn found(text: &[u8], from: usize) -> Result<Placed, Fail> {
-        match next_token(text, from) {
-            Ok(Some(placed)) => Ok(placed),
-            Ok(None) => Err(Fail::new("no token")),
-            Err(_) => Err(Fail::new("a refusal")),
-        }
+    fn found(text: &[u8], from: usize) -> Result<Placed<Token>, Fail> {
+        next_token(text, from)
+            .map_err(|_| Fail::new("a refusal"))?
+            .ok_or_else(|| Fail::new("no token"))
     }
 
     #[test]
     fn words(rt: HostRuntime) -> Result<(), Fail> {
         for (text, want) in WORDS {
             let placed = found(text, 0)?;
+            assert_eq!(rt; placed.token, Token::Word(want));
             assert_eq!(rt; placed.end, text.len());
-            match placed.token {
-                Token::Word(word) => assert_eq!(rt; word as u8, want as u8),
-                _ => return Err(Fail::new("no word")),
-            }
         }
         Ok(())
     }
@@ -124,11 +119,8 @@ mod tests {
     fn marks(rt: HostRuntime) -> Result<(), Fail> {
         for (text, want) in MARKS {
             let placed = found(text, 0)?;
+            assert_eq!(rt; placed.token, Token::Mark(want));
             assert_eq!(rt; placed.end, text.len());
-            match placed.token {
-                Token::Mark(mark) => assert_eq!(rt; mark as u8, want as u8),
-                _ => return Err(Fail::new("no mark")),
-            }
         }
         Ok(())
     }
@@ -136,12 +128,8 @@ mod tests {
     #[test]
     fn names(rt: HostRuntime) -> Result<(), Fail> {
         for (text, from, want, start, end) in NAMES {
-            let placed = found(text, from)?;
-            assert_eq!(rt; (placed.start, placed.end), (start, end));
-            match placed.token {
-                Token::Name(bytes) => assert!(rt; bytes == want),
-                _ => return Err(Fail::new("no name")),
-            }
+            let token = Token::Name(want);
+            assert_eq!(rt; found(text, from)?, Placed { token, start, end });
         }
         Ok(())
     }
@@ -149,76 +137,47 @@ mod tests {
     #[test]
     fn numbers(rt: HostRuntime) -> Result<(), Fail> {
         for (text, from, want, start, end) in NUMBERS {
-            let placed = found(text, from)?;
-            assert_eq!(rt; (placed.start, placed.end), (start, end));
-            match placed.token {
-                Token::Number(bytes) => assert!(rt; bytes == want),
-                _ => return Err(Fail::new("no number")),
-            }
+            let token = Token::Number(want);
+            assert_eq!(rt; found(text, from)?, Placed { token, start, end });
         }
         Ok(())
     }
 
-    // The text has so many tokens.
-    fn counted(text: &[u8], want: usize) -> Result<(), Fail> {
-        match count_tokens(text) {
-            Ok(count) if count == want => Ok(()),
-            Ok(_) => Err(Fail::new("another count")),
-            Err(_) => Err(Fail::new("a refusal")),
-        }
-    }
-
-    // The text is refused by the number and at the index.
-    fn refused(text: &[u8], number: u8, index: usize) -> Result<(), Fail> {
-        match count_tokens(text) {
-            Ok(_) => Err(Fail::new("no refusal")),
-            Err(refusal) if refusal.number() == number && refusal.index() == index => Ok(()),
-            Err(_) => Err(Fail::new("another refusal")),
-        }
+    // How many tokens the text has, or the number and the index of its refusal.
+    fn counted(text: &[u8]) -> Result<usize, (u8, usize)> {
+        count_tokens(text).map_err(|refusal| (refusal.number(), refusal.index()))
     }
 
     #[test]
-    fn counts() -> Result<(), Fail> {
+    fn counts(rt: HostRuntime) {
         for (text, count) in COUNTS {
-            counted(text, count)?;
+            assert_eq!(rt; counted(text), Ok(count));
         }
-        Ok(())
     }
 
     #[test]
-    fn faults() -> Result<(), Fail> {
+    fn faults(rt: HostRuntime) {
         for (text, index) in FAULTS {
-            refused(text, 2, index)?;
-        }
-        Ok(())
-    }
-
-    // Nothing is left from the place on.
-    fn empty(text: &[u8], from: usize) -> Result<(), Fail> {
-        match next_token(text, from) {
-            Ok(None) => Ok(()),
-            _ => Err(Fail::new("something is left")),
+            assert_eq!(rt; counted(text), Err((2, index)));
         }
     }
 
     // Past the last token there is none, and past the text neither.
     #[test]
-    fn ends(rt: HostRuntime) -> Result<(), Fail> {
-        empty(b"a  ", 1)?;
-        empty(b"a", 1)?;
-        empty(b"a", usize::MAX)?;
+    fn ends(rt: HostRuntime) {
+        assert_eq!(rt; next_token(b"a  ", 1), Ok(None));
+        assert_eq!(rt; next_token(b"a", 1), Ok(None));
+        assert_eq!(rt; next_token(b"a", usize::MAX), Ok(None));
         assert!(rt; next_token(b"procs 9 $", 7).is_err());
-        Ok(())
     }
 
     #[test]
-    fn limit_of_length(rt: HostRuntime) -> Result<(), Fail> {
-        counted(&[b' '; 16384], 0)?;
-        counted(&[b'('; 16384], 16384)?;
-        refused(&[b' '; 16385], 1, 0)?;
-        refused(&[b'$'; 16385], 1, 0)?;
+    fn limit_of_length(rt: HostRuntime) {
+        assert_eq!(rt; counted(&[b' '; 16384]), Ok(0));
+        assert_eq!(rt; counted(&[b'('; 16384]), Ok(16384));
+        assert_eq!(rt; counted(&[b' '; 16385]), Err((1, 0)));
+        assert_eq!(rt; counted(&[b'$'; 16385]), Err((1, 0)));
         assert!(rt; next_token(&[b' '; 16385], 16385).is_err());
-        Ok(())
     }
 
     #[test]
