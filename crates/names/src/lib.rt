@@ -5,3 +5,4 @@ mod list;
 mod table;
 
 pub use list::{MAX_NAMES, NameList};
+pub use table::Full;
