@@ -2,7 +2,7 @@
 #![tactic(auto)]
 
 /// What joins two parts of an expression.
-#[derive(Clone, Copy)]
+#[derive(Clone, Copy, Debug, PartialEq, Eq)]
 pub enum Operator {
     Or,
     And,
@@ -15,7 +15,7 @@ pub enum Operator {
 }
 
 /// One place of an expression written in postfix order.
-#[derive(Clone, Copy)]
+#[derive(Clone, Copy, Debug, PartialEq, Eq)]
 pub enum Item {
     Number(u8),
     Variable(u8),

@@ -1,5 +1,7 @@
 -- The stream ahead, by the next token. Assumes nothing.
-use Rattle.std.proofs.Common.{◌≡◌, ℕ, ◌+◌, ◌≤◌, List, length, Err, sym, refl, ap, ◌∙◌, arith}
+use Rattle.std.proofs.Common.{◌≡◌, ℕ, ◌+◌, ◌<◌, ◌≤◌, ◌⊎◌, List, [], length, Err, sym, refl, ap, ◌∙◌, inl, inr, add-zero, add-one, arith}
+use Rattle.std.proofs.lemmas.Bool.{cases_lt}
+use Rattle.std.proofs.lemmas.List.{drop_all}
 use Rattle.lock_text.specs.Spelling.{Lexeme}
 use Rattle.lock_text.specs.Tokens.{NextToken, NoToken, Misspelt, max_text}
 use Rattle.lock_text.specs.Lexing.{Lexes}
@@ -7,11 +9,13 @@ use Rattle.lock_text.specs.Refusals.{refusal_index}
 use Rattle.lock_text.specs.declared.refusal.TextRefusal.{TextRefusal}
 use Rattle.lock_text.specs.declared.refusal.TextRefusal.TheVariants.{TooLong, Spelling, Unwanted, OutOfRange, Declared, Unknown, AssignedTwice, PastLimit, TooManyStates}
 use Rattle.token_stream.specs.Streams.{Stream, token, fault, end, Streams}
+use Rattle.token_stream.specs.Computed.{stream_from, run_length}
 use Rattle.token_stream.proofs.Streaming.{streams_are_one, from}
 use Rattle.expression_grammar.specs.Kinds.{Scope, kind, seen, place}
 use Rattle.expression_grammar.specs.declared.kind.Kind.TheVariants.{Other, Misspelt as Wrong}
 use Rattle.expression_reader.specs.Ahead.{ahead, Looked}
-use Rattle.expression_reader.specs.declared.look.Seen.{Seen}
+use Rattle.expression_grammar.specs.declared.kind.Kind.{Kind}
+use Rattle.lock_text.specs.declared.token.Placed.{Placed}
 
 pub streams_ahead : (t : List ℕ) (a : ℕ) → a ≤ length t → Streams t a (ahead t a)
 unfolding ahead
@@ -42,10 +46,18 @@ lexer_fault t a (AssignedTwice s) h l = absurd l
 lexer_fault t a (PastLimit s) h l = absurd l
 lexer_fault t a (TooManyStates s) h l = absurd l
 
-module _ (scope : Scope) (t : List ℕ) (a : ℕ) (v : Seen) (h : a ≤ length t) where
-  pub looked_token : (l : Lexeme) → NextToken t a l v.start v.end → v.kind ≡ kind scope l → Looked scope t a v
+-- past the end of the text nothing stands
+ahead_past : (t : List ℕ) (a : ℕ) → length t ≤ a → ahead t a ≡ end a
+unfolding ahead stream_from run_length
+ahead_past t a h = ap (stream_from (length t + 1) a) (drop_all a t h) ∙ ap (λ n. stream_from n a []) (add-one (length t)) ∙ ap end (add-zero a)
+
+module _ (scope : Scope) (t : List ℕ) (a : ℕ) (v : Placed Kind) where
+  pub looked_token : (l : Lexeme) → NextToken t a l v.start v.end → v.token ≡ kind scope l → Looked scope t a v
   looked_token l n k =
-      let p = ahead_token t a l v.start v.end h n in
+      let start : a ≤ v.start = n.after in
+      let more : v.start < v.end = n.token.some_bytes in
+      let within : v.end ≤ length t = n.token.within in
+      let p = ahead_token t a l v.start v.end (omega arith) n in
       record {
         kind = k ∙ sym (ap (seen scope) p);
         start = sym (ap place p);
@@ -54,18 +66,25 @@ module _ (scope : Scope) (t : List ℕ) (a : ℕ) (v : Seen) (h : a ≤ length t
             (n.token.within, cc);
       }
 
-  pub looked_none : NoToken t a → v.kind ≡ Other → v.start ≡ length t → Looked scope t a v
-  looked_none n k s =
-      let p = ahead_none t a h n in
-      record {
-        kind = k ∙ sym (ap (seen scope) p);
-        start = s ∙ sym (ap place p);
-        past = λ m u x q. let z : ◌≡◌ {A = ℕ} 0 1 = cc in absurd (omega arith);
-      }
+  ended : (m : ℕ) → ahead t a ≡ end m → v.token ≡ Other → v.start ≡ m → Looked scope t a v
+  ended m p k s = record {
+    kind = k ∙ sym (ap (seen scope) p);
+    start = s ∙ sym (ap place p);
+    past = λ l u x q. let z : ◌≡◌ {A = ℕ} 0 1 = cc in absurd (omega arith);
+  }
 
-  pub looked_fault : (s : ℕ) → Misspelt t a s → v.kind ≡ Wrong → v.start ≡ s → Looked scope t a v
+  pub looked_none : NoToken t a → v.token ≡ Other → (a ≤ length t → v.start ≡ length t) → (length t ≤ a → v.start ≡ a) → Looked scope t a v
+  looked_none n k inside past = by (cases_lt a (length t))
+    where
+      by : (a < length t) ⊎ (length t ≤ a) → Looked scope t a v
+      by (inl h) = let w : a ≤ length t = omega arith in ended (length t) (ahead_none t a w n) k (inside w)
+      by (inr h) = ended a (ahead_past t a h) k (past h)
+
+  pub looked_fault : (s : ℕ) → Misspelt t a s → v.token ≡ Wrong → v.start ≡ s → Looked scope t a v
   looked_fault s n k e =
-      let p = ahead_fault t a s h n in
+      let start : a ≤ s = n.after in
+      let within : s < length t = n.within in
+      let p = ahead_fault t a s (omega arith) n in
       record {
         kind = k ∙ sym (ap (seen scope) p);
         start = e ∙ sym (ap place p);

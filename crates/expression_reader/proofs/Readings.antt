@@ -15,7 +15,7 @@ use Rattle.expression_grammar.specs.declared.kind.Kind.TheVariants.{Number, Larg
 use Rattle.expression_grammar.proofs.Facts.{OfToken, stands, joining_tells}
 use Rattle.expression_reader.specs.Ahead.{ahead, Looked, TokenAhead}
 use Rattle.expression_reader.specs.State.{held, state, Took, Refused, Reads, UnwantedAt, Passed, Counted, Pushed, lone, OperandRead, Closes}
-use Rattle.expression_reader.specs.declared.look.Seen.{Seen}
+use Rattle.lock_text.specs.declared.token.Placed.{Placed}
 use Rattle.expression_reader.specs.declared.reader.Reader.{Reader}
 
 -- refusals
@@ -40,31 +40,31 @@ exit t r r' o res f e h = let p = err_from_is_err_and res e in rw (p.1, p.2) h
 
 -- what stands ahead
 
-module _ (scope : Scope) (t : List ℕ) (a : ℕ) (v : Seen) (look : Looked scope t a v) where
+module _ (scope : Scope) (t : List ℕ) (a : ℕ) (v : Placed Kind) (look : Looked scope t a v) where
   -- the refusal with a number, here
   pub refused_here : (n : ℕ) (o : Outcome) (f : TextRefusal) → o ≡ refused n (ahead t a) → refusal_number f ≡ n → refusal_index f ≡ v.start → Refused o f
   refused_here n o f e p q = record { rest = ahead t a; is = e ∙ ap (λ m. refused m (ahead t a)) (sym p); index = q ∙ look.start }
 
-  pub token_ahead : OfToken v.kind → TokenAhead t a
+  pub token_ahead : OfToken v.token → TokenAhead t a
   token_ahead h =
-      let p = stands scope (ahead t a) v.kind (sym look.kind) h in
+      let p = stands scope (ahead t a) v.token (sym look.kind) h in
       (p.0, place (ahead t a), behind (ahead t a), p.1)
 
   pub step_over : TokenAhead t a → (behind (ahead t a) ≡ ahead t v.end) × (size (ahead t a) ≡ size (ahead t v.end) + 1) × (v.end ≤ length t)
   step_over (l, s, x, e) = let p = look.past l s x e in (ap behind e ∙ p.1, ap size e ∙ ap (λ y. size y + 1) p.1, p.0)
 
-pub of_kind : (v : Seen) (c : Kind) → v.kind ≡ c → OfToken c → OfToken v.kind
+pub of_kind : (v : Placed Kind) (c : Kind) → v.token ≡ c → OfToken c → OfToken v.token
 of_kind v c h k = subst OfToken (sym h) k
 
-pub of_operator : (v : Seen) (k : ℕ) (o : Operator) → joining k v.kind ≡ Some o → OfToken v.kind
-of_operator v k o h = of_kind v (Joins o) (joining_tells k v.kind o h).0 tt
+pub of_operator : (v : Placed Kind) (k : ℕ) (o : Operator) → joining k v.token ≡ Some o → OfToken v.token
+of_operator v k o h = of_kind v (Joins o) (joining_tells k v.token o h).0 tt
 
 pub same_state : (t : List ℕ) (r r1 : Reader) → r1.at ≡ r.at → r1.operands ≡ r.operands → r1.counted ≡ r.counted → state t r ≡ state t r1
 same_state t r r1 p q s = λ i. record { rest = ahead t (sym p i); operands = sym q i; items = sym s i }
 
-module _ (scope : Scope) (t : List ℕ) (r : Reader) (v : Seen) (look : Looked scope t r.at v) where
+module _ (scope : Scope) (t : List ℕ) (r : Reader) (v : Placed Kind) (look : Looked scope t r.at v) where
   -- one more item
-  pub count_on : (r1 : Reader) (k : State → Outcome) → TokenAhead t r.at → Counted r v r1 → count (state t r) k ≡ k (state t r1)
+  pub count_on : (r1 : Reader) (k : State → Outcome) → TokenAhead t r.at → Counted r v.end r1 → count (state t r) k ≡ k (state t r1)
   unfolding count
   count_on r1 k tok c =
       ap (λ b. count_if b (state t r) k) (lt-ltb _ max_items c.room) ∙ ap k (λ i. record { rest = ((step_over scope t r.at v look tok).0 ∙ ap (ahead t) (sym c.at)) i; operands = sym c.operands i; items = sym c.counted i })
@@ -73,11 +73,11 @@ module _ (scope : Scope) (t : List ℕ) (r : Reader) (v : Seen) (look : Looked s
   unfolding count
   count_full f k (e, full) = refused_here scope t r.at v look 8 _ f (ap (λ b. count_if b (state t r) k) (le-ltb _ max_items full)) (ap refusal_number e) (ap refusal_index e)
 
-  pub past_is : (r1 : Reader) → TokenAhead t r.at → Passed r v r1 → past (state t r) ≡ state t r1
+  pub past_is : (r1 : Reader) → TokenAhead t r.at → Passed r v.end r1 → past (state t r) ≡ state t r1
   past_is r1 tok p = λ i. record { rest = ((step_over scope t r.at v look tok).0 ∙ ap (ahead t) (sym p.at)) i; operands = sym p.operands i; items = sym p.counted i }
 
 -- a push has room
-pub even_room : (t : List ℕ) (r r1 r2 : Reader) (v : Seen) (o : Outcome) → Counted r v r1 → Took t r1 o r2 → r2.written < r2.counted
+pub even_room : (t : List ℕ) (r r1 r2 : Reader) (v : Placed Kind) (o : Outcome) → Counted r v.end r1 → Took t r1 o r2 → r2.written < r2.counted
 even_room t r r1 r2 v o c b = let f = r.fits in omega (arith, c.written, c.counted, b.even)
 
 -- parts joined by operators
@@ -110,12 +110,12 @@ going_none scope t k one r w = record {
 }
 
 -- what a count changes of the stream, and what it leaves
-pub counted_over : (scope : Scope) (t : List ℕ) (r r1 : Reader) (v : Seen) → Looked scope t r.at v → TokenAhead t r.at → Counted r v r1 → (size (ahead t r.at) ≡ size (ahead t r1.at) + 1) × (r1.at ≤ length t)
+pub counted_over : (scope : Scope) (t : List ℕ) (r r1 : Reader) (v : Placed Kind) → Looked scope t r.at v → TokenAhead t r.at → Counted r v.end r1 → (size (ahead t r.at) ≡ size (ahead t r1.at) + 1) × (r1.at ≤ length t)
 counted_over scope t r r1 v look tok c =
     let p = step_over scope t r.at v look tok in
     (p.1 ∙ ap (λ a. size (ahead t a) + 1) (sym c.at), subst (λ (a : ℕ). a ≤ length t) (sym c.at) p.2)
 
-pub passed_over : (scope : Scope) (t : List ℕ) (r r1 : Reader) (v : Seen) → Looked scope t r.at v → TokenAhead t r.at → Passed r v r1 → (size (ahead t r.at) ≡ size (ahead t r1.at) + 1) × (r1.at ≤ length t)
+pub passed_over : (scope : Scope) (t : List ℕ) (r r1 : Reader) (v : Placed Kind) → Looked scope t r.at v → TokenAhead t r.at → Passed r v.end r1 → (size (ahead t r.at) ≡ size (ahead t r1.at) + 1) × (r1.at ≤ length t)
 passed_over scope t r r1 v look tok c =
     let p = step_over scope t r.at v look tok in
     (p.1 ∙ ap (λ a. size (ahead t a) + 1) (sym c.at), subst (λ (a : ℕ). a ≤ length t) (sym c.at) p.2)
@@ -123,7 +123,7 @@ passed_over scope t r r1 v look tok c =
 pushed_size : (t : List ℕ) (r r1 : Reader) (x : Item) → Pushed r x r1 → size (ahead t r1.at) ≡ size (ahead t r.at)
 pushed_size t r r1 x p = ap (λ a. size (ahead t a)) p.at
 
-module _ (scope : Scope) (t : List ℕ) (k : ℕ) (one : State → Outcome) (r : Reader) (v : Seen) (op : Operator) (look : Looked scope t r.at v) (join : joining k v.kind ≡ Some op) where
+module _ (scope : Scope) (t : List ℕ) (k : ℕ) (one : State → Outcome) (r : Reader) (v : Placed Kind) (op : Operator) (look : Looked scope t r.at v) (join : joining k v.token ≡ Some op) where
   tok : TokenAhead t r.at
   tok = token_ahead scope t r.at v look (of_operator v k op join)
 
@@ -136,7 +136,7 @@ module _ (scope : Scope) (t : List ℕ) (k : ℕ) (one : State → Outcome) (r :
   more_on zero acc h = let l = (step_over scope t r.at v look tok).1 in absurd (omega arith)
   more_on (suc f) acc h = (f, refl, ap (λ j. on_operator j (read acc (state t r)) (λ o. count (state t r) (λ s. then (one s) (λ e u. more scope k one f (joined o acc e) u)))) joins_here)
 
-  pub going_more : (r0 r1 r2 r3 : Reader) → Going scope t k one r0 r → Counted r v r1 → Took t r1 (one (state t r1)) r2 → Pushed r2 (Items.Operator op) r3 → Going scope t k one r0 r3
+  pub going_more : (r0 r1 r2 r3 : Reader) → Going scope t k one r0 r → Counted r v.end r1 → Took t r1 (one (state t r1)) r2 → Pushed r2 (Items.Operator op) r3 → Going scope t k one r0 r3
   going_more r0 r1 r2 r3 g c b p =
       let over = counted_over scope t r r1 v look tok c in
       let pushed = pushed_size t r2 r3 _ p in
@@ -158,11 +158,8 @@ module _ (scope : Scope) (t : List ℕ) (k : ℕ) (one : State → Outcome) (r :
             };
       }
 
-  pub operator_over : (r1 : Reader) → Counted r v r1 → r1.at ≤ length t
-  operator_over r1 c = (counted_over scope t r r1 v look tok c).1
-
   -- the loop's measure falls
-  pub going_falls : (r1 r2 r3 : Reader) → Counted r v r1 → Took t r1 (one (state t r1)) r2 → Pushed r2 (Items.Operator op) r3 → size (ahead t r3.at) < size (ahead t r.at)
+  pub going_falls : (r1 r2 r3 : Reader) → Counted r v.end r1 → Took t r1 (one (state t r1)) r2 → Pushed r2 (Items.Operator op) r3 → size (ahead t r3.at) < size (ahead t r.at)
   going_falls r1 r2 r3 c b p =
       let over = counted_over scope t r r1 v look tok c in
       let pushed = pushed_size t r2 r3 _ p in
@@ -179,7 +176,7 @@ module _ (scope : Scope) (t : List ℕ) (k : ℕ) (one : State → Outcome) (r :
     pub going_full : (f : TextRefusal) → (f ≡ PastLimit v.start) × (max_items ≤ r.counted) → Refused (chain scope k one (state t ra)) f
     going_full f fl = refused_by upto.2 (count_full scope t r v look f _ fl)
 
-    pub going_refused : (r1 : Reader) (f : TextRefusal) → Counted r v r1 → Refused (one (state t r1)) f → Refused (chain scope k one (state t ra)) f
+    pub going_refused : (r1 : Reader) (f : TextRefusal) → Counted r v.end r1 → Refused (one (state t r1)) f → Refused (chain scope k one (state t ra)) f
     going_refused r1 f c h = refused_by (upto.2 ∙ count_on scope t r v look r1 _ tok c) (refused_on _ h)
 
 pub first_refused : (scope : Scope) (k : ℕ) (one : State → Outcome) (s : State) (f : TextRefusal) → Refused (one s) f → Refused (chain scope k one s) f
@@ -214,7 +211,7 @@ lone_items (Items.Variable n) e h = let q : variable n ≡ e = cc in rw (← q) 
 lone_items Items.Not e h = let z : ◌≡◌ {A = ℕ} 0 1 = cc in absurd (omega arith)
 lone_items (Items.Operator o) e h = let z : ◌≡◌ {A = ℕ} 0 1 = cc in absurd (omega arith)
 
-module _ (scope : Scope) (t : List ℕ) (r : Reader) (v : Seen) (look : Looked scope t r.at v) (e : Tree) where
+module _ (scope : Scope) (t : List ℕ) (r : Reader) (v : Placed Kind) (look : Looked scope t r.at v) (e : Tree) where
   pub operand_many : max_operands ≤ r.operands → Refused (operand (state t r) e) (PastLimit v.start)
   unfolding operand
   operand_many h = refused_here scope t r.at v look 8 _ _ (ap (λ b. operand_if b (state t r) e) (le-ltb _ max_operands h)) refl refl
@@ -223,7 +220,7 @@ module _ (scope : Scope) (t : List ℕ) (r : Reader) (v : Seen) (look : Looked s
   unfolding operand
   operand_full f h fl = refused_by (ap (λ b. operand_if b (state t r) e) (lt-ltb _ max_operands h)) (count_full scope t r v look f _ fl)
 
-  pub operand_took : (r1 r2 r3 : Reader) (x : Item) → lone x ≡ Some e → TokenAhead t r.at → r.operands < max_operands → Counted r v r1 → r2.at ≡ r1.at → r2.operands ≡ r1.operands + 1 → r2.counted ≡ r1.counted → r2.written ≡ r1.written → r2.items ≡ r1.items → Pushed r2 x r3 → Took t r (operand (state t r) e) r3
+  pub operand_took : (r1 r2 r3 : Reader) (x : Item) → lone x ≡ Some e → TokenAhead t r.at → r.operands < max_operands → Counted r v.end r1 → r2.at ≡ r1.at → r2.operands ≡ r1.operands + 1 → r2.counted ≡ r1.counted → r2.written ≡ r1.written → r2.items ≡ r1.items → Pushed r2 x r3 → Took t r (operand (state t r) e) r3
   unfolding operand
   operand_took r1 r2 r3 x lx tk h c a n u ln it p =
       let over = counted_over scope t r r1 v look tk c in
@@ -241,12 +238,12 @@ module _ (scope : Scope) (t : List ℕ) (r : Reader) (v : Seen) (look : Looked s
 
 -- factors
 
-module _ (scope : Scope) (i : Levels) (t : List ℕ) (r : Reader) (v : Seen) (look : Looked scope t r.at v) where
-  factor_is : (c : Kind) → v.kind ≡ c → factor scope i (state t r) ≡ factor_at scope i (state t r) c
+module _ (scope : Scope) (i : Levels) (t : List ℕ) (r : Reader) (v : Placed Kind) (look : Looked scope t r.at v) where
+  factor_is : (c : Kind) → v.token ≡ c → factor scope i (state t r) ≡ factor_at scope i (state t r) c
   unfolding factor
   factor_is c h = ap (factor_at scope i (state t r)) (sym look.kind ∙ h)
 
-  pub atom_is : (c : Kind) → v.kind ≡ c → atom scope i (state t r) ≡ atom_at i (state t r) c
+  pub atom_is : (c : Kind) → v.token ≡ c → atom scope i (state t r) ≡ atom_at i (state t r) c
   unfolding atom
   atom_is c h = ap (atom_at i (state t r)) (sym look.kind ∙ h)
 
@@ -271,15 +268,12 @@ denying_shut : (scope : Scope) (n : ℕ) (s : State) → n ≡ 0 → (levels sco
 unfolding levels
 denying_shut scope n s h = ap (λ m. (levels scope m).denying s) h
 
-module _ (scope : Scope) (t : List ℕ) (r : Reader) (n : ℕ) (v : Seen) (look : Looked scope t r.at v) (is-not : v.kind ≡ Not) where
+module _ (scope : Scope) (t : List ℕ) (r : Reader) (n : ℕ) (v : Placed Kind) (look : Looked scope t r.at v) (is-not : v.token ≡ Not) where
   not_ahead : TokenAhead t r.at
   not_ahead = token_ahead scope t r.at v look (of_kind v Not is-not tt)
 
   pub not_shut : n ≡ 0 → Refused (factor scope (levels scope n) (state t r)) (PastLimit v.start)
   not_shut h = refused_here scope t r.at v look 8 _ _ (factor_is scope (levels scope n) t r v look Not is-not ∙ denying_shut scope n _ h) refl refl
-
-  pub not_over : (r1 : Reader) → Counted r v r1 → r1.at ≤ length t
-  not_over r1 c = (counted_over scope t r r1 v look not_ahead c).1
 
   module _ (some : n ≡ 0 → ⊥) where
     not_is : factor scope (levels scope n) (state t r) ≡ count (state t r) (λ u. then (factor scope (levels scope (n - 1)) u) (λ e w. read (denial e) w))
@@ -288,10 +282,10 @@ module _ (scope : Scope) (t : List ℕ) (r : Reader) (n : ℕ) (v : Seen) (look 
     pub not_full : (f : TextRefusal) → (f ≡ PastLimit v.start) × (max_items ≤ r.counted) → Refused (factor scope (levels scope n) (state t r)) f
     not_full f fl = refused_by not_is (count_full scope t r v look f _ fl)
 
-    pub not_refused : (r1 : Reader) (f : TextRefusal) → Counted r v r1 → Refused (factor scope (levels scope (n - 1)) (state t r1)) f → Refused (factor scope (levels scope n) (state t r)) f
+    pub not_refused : (r1 : Reader) (f : TextRefusal) → Counted r v.end r1 → Refused (factor scope (levels scope (n - 1)) (state t r1)) f → Refused (factor scope (levels scope n) (state t r)) f
     not_refused r1 f c h = refused_by (not_is ∙ count_on scope t r v look r1 _ not_ahead c) (refused_on _ h)
 
-    pub not_took : (r1 r2 r3 : Reader) → Counted r v r1 → Took t r1 (factor scope (levels scope (n - 1)) (state t r1)) r2 → Pushed r2 Items.Not r3 → Took t r (factor scope (levels scope n) (state t r)) r3
+    pub not_took : (r1 r2 r3 : Reader) → Counted r v.end r1 → Took t r1 (factor scope (levels scope (n - 1)) (state t r1)) r2 → Pushed r2 Items.Not r3 → Took t r (factor scope (levels scope n) (state t r)) r3
     not_took r1 r2 r3 c b p =
         let over = counted_over scope t r r1 v look not_ahead c in
         let pushed = pushed_size t r2 r3 _ p in
@@ -307,7 +301,7 @@ module _ (scope : Scope) (t : List ℕ) (r : Reader) (n : ℕ) (v : Seen) (look 
         }
 
 -- two parts and their operator
-joined_took : (scope : Scope) (t : List ℕ) (v : Seen) (o1 o2 o : Outcome) (op : Operator) (r r1 r2 r3 r4 : Reader) (a : Took t r o1 r1) → Looked scope t r1.at v → TokenAhead t r1.at → Counted r1 v r2 → (b : Took t r2 o2 r3) → Pushed r3 (Items.Operator op) r4 → o ≡ read (joined op a.tree b.tree) (state t r3) → Took t r o r4
+joined_took : (scope : Scope) (t : List ℕ) (v : Placed Kind) (o1 o2 o : Outcome) (op : Operator) (r r1 r2 r3 r4 : Reader) (a : Took t r o1 r1) → Looked scope t r1.at v → TokenAhead t r1.at → Counted r1 v.end r2 → (b : Took t r2 o2 r3) → Pushed r3 (Items.Operator op) r4 → o ≡ read (joined op a.tree b.tree) (state t r3) → Took t r o r4
 joined_took scope t v o1 o2 o op r r1 r2 r3 r4 a look tk c b p e =
     let over = counted_over scope t r1 r2 v look tk c in
     let pushed = pushed_size t r3 r4 _ p in
@@ -322,9 +316,9 @@ joined_took scope t v o1 o2 o op r r1 r2 r3 r4 a look tk c b p e =
       longer = omega (arith, p.written, c.written, b.longer, a.longer);
     }
 
-module _ (scope : Scope) (t : List ℕ) (r : Reader) (i : Levels) (v : Seen) (look : Looked scope t r.at v) (other : v.kind ≡ Not → ⊥) where
+module _ (scope : Scope) (t : List ℕ) (r : Reader) (i : Levels) (v : Placed Kind) (look : Looked scope t r.at v) (other : v.token ≡ Not → ⊥) where
   test_is : factor scope i (state t r) ≡ test scope i (state t r)
-  test_is = factor_is scope i t r v look v.kind refl ∙ factor_plain scope i _ v.kind other
+  test_is = factor_is scope i t r v look v.token refl ∙ factor_plain scope i _ v.token other
 
   pub plain_refused : (f : TextRefusal) → Refused (sum scope i (state t r)) f → Refused (factor scope i (state t r)) f
   plain_refused f h = refused_by test_is (refused_on _ h)
@@ -345,7 +339,7 @@ module _ (scope : Scope) (t : List ℕ) (r : Reader) (i : Levels) (v : Seen) (lo
       longer = first.longer;
     }
 
-    module _ (u : Seen) (sign : Looked scope t r1.at u) (op : Operator) (join : joining 2 u.kind ≡ Some op) where
+    module _ (u : Placed Kind) (sign : Looked scope t r1.at u) (op : Operator) (join : joining 2 u.token ≡ Some op) where
       sign_ahead : TokenAhead t r1.at
       sign_ahead = token_ahead scope t r1.at u sign (of_operator u 2 op join)
 
@@ -355,13 +349,10 @@ module _ (scope : Scope) (t : List ℕ) (r : Reader) (i : Levels) (v : Seen) (lo
       pub test_full : (f : TextRefusal) → (f ≡ PastLimit u.start) × (max_items ≤ r1.counted) → Refused (factor scope i (state t r)) f
       test_full f fl = refused_by joined_is (count_full scope t r1 u sign f _ fl)
 
-      pub test_over : (r2 : Reader) → Counted r1 u r2 → r2.at ≤ length t
-      test_over r2 c = (counted_over scope t r1 r2 u sign sign_ahead c).1
-
-      pub test_refused : (r2 : Reader) (f : TextRefusal) → Counted r1 u r2 → Refused (sum scope i (state t r2)) f → Refused (factor scope i (state t r)) f
+      pub test_refused : (r2 : Reader) (f : TextRefusal) → Counted r1 u.end r2 → Refused (sum scope i (state t r2)) f → Refused (factor scope i (state t r)) f
       test_refused r2 f c h = refused_by (joined_is ∙ count_on scope t r1 u sign r2 _ sign_ahead c) (refused_on _ h)
 
-      pub test_took : (r2 r3 r4 : Reader) → Counted r1 u r2 → Took t r2 (sum scope i (state t r2)) r3 → Pushed r3 (Items.Operator op) r4 → Took t r (factor scope i (state t r)) r4
+      pub test_took : (r2 r3 r4 : Reader) → Counted r1 u.end r2 → Took t r2 (sum scope i (state t r2)) r3 → Pushed r3 (Items.Operator op) r4 → Took t r (factor scope i (state t r)) r4
       test_took r2 r3 r4 c b p = joined_took scope t u _ _ _ op r r1 r2 r3 r4 first sign sign_ahead c b p (joined_is ∙ count_on scope t r1 u sign r2 _ sign_ahead c ∙ ap (λ o. then o (λ b w. read (joined op first.tree b) w)) b.is)
 
 -- atoms
@@ -387,32 +378,29 @@ bracket_shut : (scope : Scope) (n : ℕ) (s : State) → n ≡ 0 → (levels sco
 unfolding levels
 bracket_shut scope n s h = ap (λ m. (levels scope m).bracket s) h
 
-module _ (scope : Scope) (t : List ℕ) (r : Reader) (n : ℕ) (v : Seen) (look : Looked scope t r.at v) where
-  pub wrong_refused : (f : TextRefusal) → ((m : ℕ) → v.kind ≡ Number m → ⊥) → (v.kind ≡ Large → ⊥) → ((m : ℕ) → v.kind ≡ Variable m → ⊥) → (v.kind ≡ Unknown → ⊥) → (v.kind ≡ Open → ⊥) → UnwantedAt v f → Refused (atom scope (levels scope n) (state t r)) f
-  wrong_refused f h1 h2 h3 h4 h5 w = refused_here scope t r.at v look (unwanted v.kind) _ f (atom_is scope (levels scope n) t r v look v.kind refl ∙ atom_unwanted (levels scope n) _ v.kind h1 h2 h3 h4 h5) w.number w.index
+module _ (scope : Scope) (t : List ℕ) (r : Reader) (n : ℕ) (v : Placed Kind) (look : Looked scope t r.at v) where
+  pub wrong_refused : (f : TextRefusal) → ((m : ℕ) → v.token ≡ Number m → ⊥) → (v.token ≡ Large → ⊥) → ((m : ℕ) → v.token ≡ Variable m → ⊥) → (v.token ≡ Unknown → ⊥) → (v.token ≡ Open → ⊥) → UnwantedAt v f → Refused (atom scope (levels scope n) (state t r)) f
+  wrong_refused f h1 h2 h3 h4 h5 w = refused_here scope t r.at v look (unwanted v.token) _ f (atom_is scope (levels scope n) t r v look v.token refl ∙ atom_unwanted (levels scope n) _ v.token h1 h2 h3 h4 h5) w.number w.index
 
-  pub large_refused : v.kind ≡ Large → Refused (atom scope (levels scope n) (state t r)) (OutOfRange v.start)
+  pub large_refused : v.token ≡ Large → Refused (atom scope (levels scope n) (state t r)) (OutOfRange v.start)
   large_refused h = refused_here scope t r.at v look 4 _ _ (atom_is scope (levels scope n) t r v look Large h) refl refl
 
-  pub unknown_refused : v.kind ≡ Unknown → Refused (atom scope (levels scope n) (state t r)) (UnknownName v.start)
+  pub unknown_refused : v.token ≡ Unknown → Refused (atom scope (levels scope n) (state t r)) (UnknownName v.start)
   unknown_refused h = refused_here scope t r.at v look 6 _ _ (atom_is scope (levels scope n) t r v look Unknown h) refl refl
 
-  pub operand_reads : {U : Type 0} (c : Kind) (e : Tree) (x : Item) (res : Result U TextRefusal) (r' : Reader) → v.kind ≡ c → OfToken c → lone x ≡ Some e → atom_at (levels scope n) (state t r) c ≡ operand (state t r) e → OperandRead scope t r v x res r' → Reads t r (atom scope (levels scope n) (state t r)) res r'
-  operand_reads c e x res r' h k l same reads = reads_by t r r' _ _ res (atom_is scope (levels scope n) t r v look c h ∙ same) (reads e l look (token_ahead scope t r.at v look (of_kind v c h k)))
+  pub operand_reads : {U : Type 0} (c : Kind) (e : Tree) (x : Item) (res : Result U TextRefusal) (r' : Reader) → v.token ≡ c → OfToken c → lone x ≡ Some e → atom_at (levels scope n) (state t r) c ≡ operand (state t r) e → OperandRead r v x res r' → Reads t r (atom scope (levels scope n) (state t r)) res r'
+  operand_reads c e x res r' h k l same reads = reads_by t r r' _ _ res (atom_is scope (levels scope n) t r v look c h ∙ same) (reads scope t e l look (token_ahead scope t r.at v look (of_kind v c h k)))
 
-  module _ (is_open : v.kind ≡ Open) where
+  module _ (is_open : v.token ≡ Open) where
     open_ahead : TokenAhead t r.at
     open_ahead = token_ahead scope t r.at v look (of_kind v Open is_open tt)
 
     pub open_shut : n ≡ 0 → Refused (atom scope (levels scope n) (state t r)) (PastLimit v.start)
     open_shut h = refused_here scope t r.at v look 8 _ _ (atom_is scope (levels scope n) t r v look Open is_open ∙ bracket_shut scope n _ h) refl refl
 
-    module _ (some : n ≡ 0 → ⊥) (r1 : Reader) (passed : Passed r v r1) where
+    module _ (some : n ≡ 0 → ⊥) (r1 : Reader) (passed : Passed r v.end r1) where
       open_is : atom scope (levels scope n) (state t r) ≡ then (expression scope (levels scope (n - 1)) (state t r1)) (closed scope)
       open_is = atom_is scope (levels scope n) t r v look Open is_open ∙ bracket_open scope n _ some ∙ ap (λ s. then (expression scope (levels scope (n - 1)) s) (closed scope)) (past_is scope t r v look r1 open_ahead passed)
-
-      pub open_over : r1.at ≤ length t
-      open_over = (passed_over scope t r r1 v look open_ahead passed).1
 
       pub open_refused : (f : TextRefusal) → Refused (expression scope (levels scope (n - 1)) (state t r1)) f → Refused (atom scope (levels scope n) (state t r)) f
       open_refused f h = refused_by open_is (refused_on _ h)
@@ -421,7 +409,7 @@ module _ (scope : Scope) (t : List ℕ) (r : Reader) (n : ℕ) (v : Seen) (look 
         inside_is : atom scope (levels scope n) (state t r) ≡ closed scope b.tree (state t r2)
         inside_is = open_is ∙ ap (λ o. then o (closed scope)) b.is
 
-        pub closed_took : (r3 : Reader) (u : Seen) → Looked scope t r2.at u → u.kind ≡ Close → Passed r2 u r3 → Took t r (atom scope (levels scope n) (state t r)) r3
+        pub closed_took : (r3 : Reader) (u : Placed Kind) → Looked scope t r2.at u → u.token ≡ Close → Passed r2 u.end r3 → Took t r (atom scope (levels scope n) (state t r)) r3
         closed_took r3 u here h p =
             let tk = token_ahead scope t r2.at u here (of_kind u Close h tt) in
             let over = passed_over scope t r r1 v look open_ahead passed in
@@ -455,6 +443,6 @@ close_unwanted e s Close h = absurd (h refl)
 close_unwanted e s Other h = refl
 close_unwanted e s Misspelt h = refl
 
-pub close_refused : (scope : Scope) (t : List ℕ) (r : Reader) (v : Seen) → Looked scope t r.at v → (v.kind ≡ Close → ⊥) → (f : TextRefusal) → UnwantedAt v f → (e : Tree) → Refused (closed scope e (state t r)) f
+pub close_refused : (scope : Scope) (t : List ℕ) (r : Reader) (v : Placed Kind) → Looked scope t r.at v → (v.token ≡ Close → ⊥) → (f : TextRefusal) → UnwantedAt v f → (e : Tree) → Refused (closed scope e (state t r)) f
 close_refused scope t r v look h f w e =
-    refused_here scope t r.at v look (unwanted v.kind) _ f (ap (closed_at e (state t r)) (sym look.kind) ∙ close_unwanted e _ v.kind h) w.number w.index
+    refused_here scope t r.at v look (unwanted v.token) _ f (ap (closed_at e (state t r)) (sym look.kind) ∙ close_unwanted e _ v.token h) w.number w.index

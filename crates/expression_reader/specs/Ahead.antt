@@ -6,7 +6,8 @@ use Rattle.token_stream.specs.Computed.{stream_from}
 use Rattle.names.specs.Listed.{listed, index_of}
 use Rattle.names.specs.declared.list.NameList.{NameList}
 use Rattle.expression_grammar.specs.Kinds.{Scope, seen, place}
-use Rattle.expression_reader.specs.declared.look.Seen.{Seen}
+use Rattle.expression_grammar.specs.declared.kind.Kind.{Kind}
+use Rattle.lock_text.specs.declared.token.Placed.{Placed}
 
 -- The stream of tokens of the text t from a on.
 unfoldable pub ahead : List ℕ → ℕ → Stream
@@ -17,8 +18,8 @@ abbrev pub scope_of : NameList → Scope
 scope_of names = index_of (listed names)
 
 -- What was seen from a on: what it is to an expression, where it stands, and, of a token, where it ends.
-pub record Looked (scope : Scope) (t : List ℕ) (a : ℕ) (v : Seen) : Type 0 where
-  pub kind : v.kind ≡ seen scope (ahead t a)
+pub record Looked (scope : Scope) (t : List ℕ) (a : ℕ) (v : Placed Kind) : Type 0 where
+  pub kind : v.token ≡ seen scope (ahead t a)
   pub start : v.start ≡ place (ahead t a)
   pub past : (l : Lexeme) (s : ℕ) (x : Stream) → ahead t a ≡ token l s x → (v.end ≤ length t) × (x ≡ ahead t v.end)
 

@@ -9,10 +9,13 @@ use Rattle.expression.specs.declared.Item.{Item}
 use Rattle.expression.specs.declared.Item.TheVariants as Items
 use Rattle.expression_grammar.specs.Kinds.{Scope, seen, place, size}
 use Rattle.expression_grammar.specs.Reading.{State, Outcome, refused, read, joining, unwanted, operand, closed}
-use Rattle.expression_grammar.specs.declared.kind.Kind.TheVariants.{Close}
+use Rattle.expression_grammar.specs.declared.kind.Kind.TheVariants.{Operator as Joins, Close}
 use Rattle.expression_reader.specs.Ahead.{ahead, Looked, TokenAhead}
-use Rattle.expression_reader.specs.declared.look.Seen.{Seen}
-use Rattle.expression_reader.specs.declared.steps.Sign.{Sign}
+use Rattle.lock_text.specs.declared.token.Placed.{Placed}
+use Rattle.expression.specs.declared.Operator.{Operator}
+use Rattle.expression_grammar.specs.declared.kind.Kind.{Kind}
+use Rattle.expression_reader.specs.Bindings.{rank_of}
+use Rattle.expression_reader.specs.declared.binding.Binding.{Binding}
 use Rattle.expression_reader.specs.declared.reader.Reader.{Reader}
 
 -- The items written so far.
@@ -46,36 +49,41 @@ abbrev pub Reads : {U : Type 0} → List ℕ → Reader → Outcome → Result U
 Reads t r o (Ok u) r' = Took t r o r'
 Reads t r o (Err f) r' = Refused o f
 
--- An operator of the rank k stands ahead, or none does.
-abbrev pub JoinsAt : Scope → List ℕ → ℕ → ℕ → Option Sign → Type 0
-JoinsAt scope t a k (Some g) = Looked scope t a g.seen × (joining k g.seen.kind ≡ Some g.operator)
-JoinsAt scope t a k None = joining k (seen scope (ahead t a)) ≡ None
+-- An operator, as what its token is to an expression.
+abbrev pub joins : Placed Operator → Placed Kind
+joins g = record { token = Joins g.token; start = g.start; end = g.end }
+
+-- An operator that binds so tightly stands ahead, or none does.
+abbrev pub JoinsAt : Scope → List ℕ → ℕ → Binding → Option (Placed Operator) → Type 0
+JoinsAt scope t a b (Some g) = Looked scope t a (joins g) × (joining (rank_of b) (Joins g.token) ≡ Some g.token)
+JoinsAt scope t a b None = joining (rank_of b) (seen scope (ahead t a)) ≡ None
 
 -- The refusal of a token that is not wanted.
-pub record UnwantedAt (v : Seen) (f : TextRefusal) : Type 0 where
-  pub number : refusal_number f ≡ unwanted v.kind
+pub record UnwantedAt (v : Placed Kind) (f : TextRefusal) : Type 0 where
+  pub number : refusal_number f ≡ unwanted v.token
   pub index : refusal_index f ≡ v.start
 
--- One token further.
-pub record Passed (r : Reader) (v : Seen) (r' : Reader) : Type 0 where
-  pub at : r'.at ≡ v.end
+-- One token further, which ends at e.
+pub record Passed (r : Reader) (e : ℕ) (r' : Reader) : Type 0 where
+  pub at : r'.at ≡ e
   pub counted : r'.counted ≡ r.counted
   pub operands : r'.operands ≡ r.operands
   pub written : r'.written ≡ r.written
   pub items : r'.items ≡ r.items
 
--- One token further, with one item more.
-pub record Counted (r : Reader) (v : Seen) (r' : Reader) : Type 0 where
+-- One token further, which ends at e, with one item more.
+pub record Counted (r : Reader) (e : ℕ) (r' : Reader) : Type 0 where
   pub room : r.counted < max_items
-  pub at : r'.at ≡ v.end
+  pub at : r'.at ≡ e
   pub counted : r'.counted ≡ r.counted + 1
   pub operands : r'.operands ≡ r.operands
   pub written : r'.written ≡ r.written
   pub items : r'.items ≡ r.items
 
-abbrev pub Counts : {U : Type 0} → Reader → Seen → Result U TextRefusal → Reader → Type 0
-Counts r v (Ok u) r' = Counted r v r'
-Counts r v (Err f) r' = (f ≡ PastLimit v.start) × (max_items ≤ r.counted)
+-- The same for the token from s up to e, if the text may have one item more.
+abbrev pub Counts : {U : Type 0} → Reader → ℕ → ℕ → Result U TextRefusal → Reader → Type 0
+Counts r s e (Ok u) r' = Counted r e r'
+Counts r s e (Err f) r' = (f ≡ PastLimit s) × (max_items ≤ r.counted)
 
 -- One item is written behind the others.
 pub record Pushed (r : Reader) (x : Item) (r' : Reader) : Type 0 where
@@ -93,11 +101,11 @@ lone (Items.Variable v) = Some (variable v)
 lone Items.Not = None
 lone (Items.Operator o) = None
 
--- What reading an operand comes to, where its token stands ahead.
-abbrev pub OperandRead : {U : Type 0} → Scope → List ℕ → Reader → Seen → Item → Result U TextRefusal → Reader → Type 0
-OperandRead scope t r v x o r' = (e : Tree) → lone x ≡ Some e → Looked scope t r.at v → TokenAhead t r.at → Reads t r (operand (state t r) e) o r'
+-- What reading an operand comes to, in each text where its token stands ahead.
+abbrev pub OperandRead : {U : Type 0} → Reader → Placed Kind → Item → Result U TextRefusal → Reader → Type 0
+OperandRead r v x o r' = (scope : Scope) (t : List ℕ) (e : Tree) → lone x ≡ Some e → Looked scope t r.at v → TokenAhead t r.at → Reads t r (operand (state t r) e) o r'
 
 -- The ) is there and was passed, or the reading of it, after any tree, is refused.
 abbrev pub Closes : {U : Type 0} → Scope → List ℕ → Reader → Result U TextRefusal → Reader → Type 0
-Closes scope t r (Ok u) r' = (v : Seen) × Looked scope t r.at v × (v.kind ≡ Close) × Passed r v r'
+Closes scope t r (Ok u) r' = (v : Placed Kind) × Looked scope t r.at v × (v.token ≡ Close) × Passed r v.end r'
 Closes scope t r (Err f) r' = (e : Tree) → Refused (closed scope e (state t r)) f

@@ -1,14 +1,10 @@
 //! Where a reader of texts begins.
-ghost use Rattle.std.specs.Prelude.{◌≤◌, length};
-ghost use Rattle.lock_text.specs.Tokens.{max_text};
-ghost use Rattle.expression.specs.Tree.{max_levels};
-ghost use Rattle.expression_grammar.specs.Reading.{expression, levels};
 ghost use Rattle.expression_reader.specs.Ahead.{scope_of};
 ghost use Rattle.expression_reader.specs.Expressions.{Blank, BlankIfRefused, ReadsExpression};
-ghost use Rattle.expression_reader.specs.State.{state, Reads};
 
-use super::parse::expression_of;
+use super::binding::Binding;
 use super::reader::{MAX_ITEMS, Reader};
+use super::source::Source;
 use expression::Item;
 use lock_text::{MAX_TEXT, TextRefusal};
 use names::NameList;
@@ -36,35 +32,24 @@ impl Reader {
         ensures reads { ReadsExpression (scope_of names.now) text.now self.old result self.new }
         ensures blank { BlankIfRefused result self.new }
     {
-        match from_place(text, names, self) {
-            Ok(()) => Ok(()),
-            Err(refusal) => {
-                *self = Reader::new();
-                Err(refusal)
-            }
+        let answer = self.from_place(text, names);
+        if answer.is_err() {
+            *self = Reader::new();
         }
+        answer
     }
-}
 
-/// Reads the expression from the reader's place on.
-fn from_place(text: &[u8], names: &NameList, r: &mut Reader) -> Result<(), TextRefusal>
-    ensures { ReadsExpression (scope_of names.now) text.now r.old result r.new }
-{
-    if text.len() > MAX_TEXT {
-        return Err(TextRefusal::TooLong);
+    /// Reads the expression from the reader's place on.
+    fn from_place(&mut self, text: &[u8], names: &NameList) -> Result<(), TextRefusal>
+        ensures { ReadsExpression (scope_of names.now) text.now self.old result self.new }
+    {
+        if text.len() > MAX_TEXT {
+            return Err(TextRefusal::TooLong);
+        }
+        if self.at > text.len() {
+            return Err(TextRefusal::Unwanted(text.len()));
+        }
+        self.operands = 0;
+        self.parts(Source { text, names }, Binding::Or, MAX_LEVELS)
     }
-    if r.at > text.len() {
-        return Err(TextRefusal::Unwanted(text.len()));
-    }
-    r.operands = 0;
-    whole(text, names, r)
-}
-
-/// An expression that no level is open around.
-fn whole(text: &[u8], names: &NameList, r: &mut Reader) -> Result<(), TextRefusal>
-    requires short { length text.now ≤ max_text }
-    requires within { r.old.at ≤ length text.now }
-    ensures { Reads text.now r.old (expression (scope_of names.now) (levels (scope_of names.now) max_levels) (state text.now r.old)) result r.new }
-{
-    expression_of(text, names, r, MAX_LEVELS)
 }

@@ -1,11 +1,13 @@
 //! Reads an expression of a lock text, and writes its items in postfix order.
 #![tactic(auto)]
 
+mod binding;
 mod entry;
 mod look;
 mod number;
 mod parse;
 mod reader;
+mod source;
 mod steps;
 
 pub use entry::MAX_LEVELS;

@@ -3,20 +3,14 @@ ghost use Rattle.std.specs.Prelude.{◌≡◌, ◌≤◌, length};
 ghost use Rattle.lock_text.specs.Tokens.{content, max_text};
 ghost use Rattle.expression_grammar.specs.Kinds.{kind, kind_of_word, kind_of_mark};
 ghost use Rattle.expression_reader.specs.Ahead.{scope_of, Looked};
+ghost use Rattle.expression_reader.specs.State.{JoinsAt};
 
+use super::binding::Binding;
 use super::number::byte_value;
+use super::source::Source;
 use expression::Operator;
 use expression_grammar::Kind;
-use lock_text::{Mark, Token, Word, next_token};
-use names::NameList;
-
-/// What stands ahead: what it is to an expression, where it begins, and where a token ends.
-#[derive(Clone, Copy)]
-pub(crate) struct Seen {
-    pub kind: Kind,
-    pub start: usize,
-    pub end: usize,
-}
+use lock_text::{Mark, Placed, Token, Word, next_token};
 
 /// What a reserved word is to an expression.
 fn word_kind(word: Word) -> Kind
@@ -47,47 +41,52 @@ fn mark_kind(mark: Mark) -> Kind
     }
 }
 
-/// What a token is to an expression.
-fn token_kind(names: &NameList, token: Token) -> Kind
-    ensures { result ≡ kind (scope_of names.now) (content token.entry) }
-{
-    match token {
-        Token::Name(name) => match names.find(name) {
-            Some(number) => Kind::Variable(number),
-            None => Kind::Unknown,
-        },
-        Token::Number(digits) => match byte_value(digits) {
-            Some(value) => Kind::Number(value),
-            None => Kind::Large,
-        },
-        Token::Word(word) => word_kind(word),
-        Token::Mark(mark) => mark_kind(mark),
+impl Source<'_> {
+    /// What a token is to an expression.
+    fn kind(self, token: Token) -> Kind
+        ensures { result ≡ kind (scope_of self.entry.names.now) (content token.entry) }
+    {
+        match token {
+            Token::Name(name) => self.names.find(name).map_or(Kind::Unknown, Kind::Variable),
+            Token::Number(digits) => byte_value(digits).map_or(Kind::Large, Kind::Number),
+            Token::Word(word) => word_kind(word),
+            Token::Mark(mark) => mark_kind(mark),
+        }
     }
-}
 
-/// What stands ahead in the text.
-pub(crate) fn look(text: &[u8], names: &NameList, at: usize) -> Seen
-    requires short { length text.now ≤ max_text }
-    requires within { at ≤ length text.now }
-    ensures { Looked (scope_of names.now) text.now at result }
-{
-    match next_token(text, at) {
-        Ok(token) => match token {
-            Some(found) => Seen {
-                kind: token_kind(names, found.token),
+    /// What stands ahead in the text: what it is to an expression, where it begins, and where a token ends.
+    pub(crate) fn look(self, at: usize) -> Placed<Kind>
+        ensures { Looked (scope_of self.entry.names.now) self.entry.text.now at result }
+    {
+        match next_token(self.text, at) {
+            Ok(Some(found)) => Placed {
+                token: self.kind(found.token),
                 start: found.start,
                 end: found.end,
             },
-            None => Seen {
-                kind: Kind::Other,
-                start: text.len(),
+            Ok(None) => Placed {
+                token: Kind::Other,
+                start: at.max(self.text.len()),
                 end: at,
             },
-        },
-        Err(refusal) => Seen {
-            kind: Kind::Misspelt,
-            start: refusal.index(),
-            end: at,
-        },
+            Err(refusal) => Placed {
+                token: Kind::Misspelt,
+                start: refusal.index(),
+                end: at,
+            },
+        }
+    }
+
+    /// The operator that binds so tightly and stands ahead, if one does.
+    pub(crate) fn operator_ahead(self, at: usize, binding: Binding) -> Option<Placed<Operator>>
+        ensures { JoinsAt (scope_of self.entry.names.now) self.entry.text.now at binding result }
+    {
+        let Placed { token, start, end } = self.look(at);
+        match token {
+            Kind::Operator(token) if Binding::of(token) == binding => {
+                Some(Placed { token, start, end })
+            }
+            _ => None,
+        }
     }
 }

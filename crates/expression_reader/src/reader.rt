@@ -19,6 +19,7 @@ pub struct Reader {
     /// How many items are written.
     pub written: usize,
     /// The items, those of each expression in postfix order.
+    // Kept as an array: a refusal leaves each place at the number 0, and an `ArrayVec` says nothing of places past its length.
     pub items: [Item; MAX_ITEMS],
     ghost fits: { written ≤ counted },
     ghost room: { counted ≤ max_items },
