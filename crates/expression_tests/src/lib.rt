@@ -6,21 +6,21 @@ mod tests {
     use expression::{Item, Operator};
     use expression_reader::Reader;
     use lock_text::TextRefusal;
-    use names::NameList;
+    use names::{Full, NameList};
 
-    // The number and the index of a refusal; zeros where there is none.
-    fn told(answer: Result<(), TextRefusal>) -> (u8, usize) {
-        match answer {
-            Ok(()) => (0, 0),
-            Err(refusal) => (refusal.number(), refusal.index()),
+    // The variables with these names.
+    fn variables<'a>(names: &[&'a [u8]]) -> Result<NameList<'a>, Full> {
+        let mut list = NameList::new();
+        for name in names {
+            list.declare(name)?;
         }
+        Ok(list)
     }
 
     // An item as one byte: a number or a variable by its own number, an operator or `not` by its sign.
     fn sign(item: Item) -> u8 {
         match item {
-            Item::Number(number) => number,
-            Item::Variable(number) => number,
+            Item::Number(number) | Item::Variable(number) => number,
             Item::Not => b'!',
             Item::Operator(operator) => match operator {
                 Operator::Or => b'|',
@@ -49,22 +49,19 @@ mod tests {
     ];
 
     #[test]
-    fn expressions_are_read(rt: HostRuntime) {
+    fn expressions_are_read(rt: HostRuntime) -> Result<(), Full> {
+        let names = variables(&[b"a", b"b"])?;
         for (text, end, items) in READ {
-            let mut names = NameList::new();
-            assert!(rt; names.declare(b"a"));
-            assert!(rt; names.declare(b"b"));
             let mut reader = Reader::new();
-            assert_eq!(rt; told(reader.expression(text, &names)), (0, 0));
+            assert_eq!(rt; reader.expression(text, &names), Ok(()));
             assert_eq!(rt; reader.at, end);
             assert_eq!(rt; reader.written, items.len());
             assert_eq!(rt; reader.counted, items.len());
-            for i in 0..items.len() {
-                if i < 4096 {
-                    assert_eq!(rt; sign(reader.items[i]), items[i]);
-                }
+            for (item, want) in reader.items.iter().zip(items) {
+                assert_eq!(rt; sign(*item), *want);
             }
         }
+        Ok(())
     }
 
     // A text and its refusal. Eight levels are open at most; a number is at most 255.
@@ -88,18 +85,15 @@ mod tests {
     ];
 
     #[test]
-    fn faults_are_refused(rt: HostRuntime) {
+    fn faults_are_refused(rt: HostRuntime) -> Result<(), Full> {
+        let names = variables(&[b"a"])?;
         for (text, refusal) in REFUSED {
-            let mut names = NameList::new();
-            assert!(rt; names.declare(b"a"));
             let mut reader = Reader::new();
-            assert_eq!(rt;
-                told(reader.expression(text, &names)),
-                (refusal.number(), refusal.index())
-            );
+            assert_eq!(rt; reader.expression(text, &names), Err(refusal));
             assert_eq!(rt; reader.at, 0);
             assert_eq!(rt; reader.written, 0);
         }
+        Ok(())
     }
 
     const OPERANDS: &[u8] = b"1+1+1+1+1+1+1+1+1+1+1+1+1+1+1+1+1+1+1+1+1+1+1+1+1+1+1+1+1+1+1+1";
@@ -109,7 +103,7 @@ mod tests {
     fn operands_have_a_limit(rt: HostRuntime) {
         let names = NameList::new();
         let mut reader = Reader::new();
-        assert_eq!(rt; told(reader.expression(OPERANDS, &names)), (0, 0));
+        assert_eq!(rt; reader.expression(OPERANDS, &names), Ok(()));
         assert_eq!(rt; reader.operands, 32);
         assert_eq!(rt; reader.written, 63);
         let more: [(&[u8], TextRefusal); 3] = [
@@ -128,10 +122,7 @@ mod tests {
         ];
         for (text, refusal) in more {
             let mut reader = Reader::new();
-            assert_eq!(rt;
-                told(reader.expression(text, &names)),
-                (refusal.number(), refusal.index())
-            );
+            assert_eq!(rt; reader.expression(text, &names), Err(refusal));
         }
     }
 
@@ -142,11 +133,15 @@ mod tests {
         let mut reader = Reader::new();
         for _ in 0..65 {
             reader.at = 0;
-            assert_eq!(rt; told(reader.expression(OPERANDS, &names)), (0, 0));
+            assert_eq!(rt; reader.expression(OPERANDS, &names), Ok(()));
         }
         assert_eq!(rt; reader.counted, 4095);
         reader.at = 0;
-        assert_eq!(rt; told(reader.expression(b"1+1", &names)), (8, 1));
+        let told = reader.expression(b"1+1", &names);
+        assert_eq!(rt;
+            told.map_err(|refusal| (refusal.number(), refusal.index())),
+            Err((8, 1))
+        );
         assert_eq!(rt; reader.counted, 0);
     }
 }
