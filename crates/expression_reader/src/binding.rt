@@ -14,11 +14,10 @@ pub(crate) enum Binding {
     Plus,
 }
 
-impl Binding {
-    /// How tightly the operator binds.
-    pub(crate) fn of(operator: Operator) -> Binding
-        ensures { rank_of result ≡ rank operator }
-    {
+impl From<Operator> for Binding {
+    ghost from_gives = { λ operator binding. rank_of binding ≡ rank operator };
+
+    fn from(operator: Operator) -> Binding {
         match operator {
             Operator::Or => Binding::Or,
             Operator::And => Binding::And,

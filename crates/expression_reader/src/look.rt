@@ -13,6 +13,7 @@ use expression_grammar::Kind;
 use lock_text::{Mark, Placed, Token, Word, next_token};
 
 /// What a reserved word is to an expression.
+// Kept as functions, this one and the next: `From` is written where one of the two types is declared.
 fn word_kind(word: Word) -> Kind
     ensures { result ≡ kind_of_word word }
 {
@@ -83,7 +84,7 @@ impl Source<'_> {
     {
         let Placed { token, start, end } = self.look(at);
         match token {
-            Kind::Operator(token) if Binding::of(token) == binding => {
+            Kind::Operator(token) if Binding::from(token) == binding => {
                 Some(Placed { token, start, end })
             }
             _ => None,
