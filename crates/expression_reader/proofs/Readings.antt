@@ -76,10 +76,6 @@ module _ (scope : Scope) (t : List ℕ) (r : Reader) (v : Placed Kind) (look : L
   pub past_is : (r1 : Reader) → TokenAhead t r.at → Passed r v.end r1 → past (state t r) ≡ state t r1
   past_is r1 tok p = λ i. record { rest = ((step_over scope t r.at v look tok).0 ∙ ap (ahead t) (sym p.at)) i; operands = sym p.operands i; items = sym p.counted i }
 
--- a push has room
-pub even_room : (t : List ℕ) (r r1 r2 : Reader) (v : Placed Kind) (o : Outcome) → Counted r v.end r1 → Took t r1 o r2 → r2.written < r2.counted
-even_room t r r1 r2 v o c b = let f = r.fits in omega (arith, c.written, c.counted, b.even)
-
 -- parts joined by operators
 
 -- the loop stands at r, with the tree so far after the items h
@@ -98,16 +94,6 @@ pub record Going (scope : Scope) (t : List ℕ) (k : ℕ) (one : State → Outco
   pub longer : r0.written ≤ r.written
   pub beyond : (i : ℕ) (d : Item) → r.written ≤ i → get_or r.items i d ≡ get_or r0.items i d
   pub midway : (h : List Item) (acc : Tree) → held r0 ≡ h ++ items acc → Midway scope t k one h (more scope k one (size (ahead t r0.at)) acc (state t r0)) r
-
-pub going_none : (scope : Scope) (t : List ℕ) (k : ℕ) (one : State → Outcome) (r : Reader) → r.at ≤ length t → Going scope t k one r r
-going_none scope t k one r w = record {
-  within = w;
-  fewer = omega arith;
-  even = refl;
-  longer = omega arith;
-  beyond = λ i d h. refl;
-  midway = λ h acc e. record { tree = acc; fuel = size (ahead t r.at); enough = omega arith; is = refl; wrote = e };
-}
 
 -- what a count changes of the stream, and what it leaves
 pub counted_over : (scope : Scope) (t : List ℕ) (r r1 : Reader) (v : Placed Kind) → Looked scope t r.at v → TokenAhead t r.at → Counted r v.end r1 → (size (ahead t r.at) ≡ size (ahead t r1.at) + 1) × (r1.at ≤ length t)
@@ -157,13 +143,6 @@ module _ (scope : Scope) (t : List ℕ) (k : ℕ) (one : State → Outcome) (r :
               wrote = p.wrote ∙ ap (λ l. l ++ (Items.Operator op ∷ [])) (b.wrote ∙ ap (λ l. l ++ items b.tree) ((λ i. take (c.written i) (c.items i)) ∙ m.wrote)) ∙ append_assoc (h ++ items m.tree) (items b.tree) (Items.Operator op ∷ []) ∙ append_assoc h (items m.tree) (items b.tree ++ (Items.Operator op ∷ []));
             };
       }
-
-  -- the loop's measure falls
-  pub going_falls : (r1 r2 r3 : Reader) → Counted r v.end r1 → Took t r1 (one (state t r1)) r2 → Pushed r2 (Items.Operator op) r3 → size (ahead t r3.at) < size (ahead t r.at)
-  going_falls r1 r2 r3 c b p =
-      let over = counted_over scope t r r1 v look tok c in
-      let pushed = pushed_size t r2 r3 _ p in
-      omega (arith, over.0, b.fewer)
 
   module _ (ra r0 : Reader) (first : Took t ra (one (state t ra)) r0) (g : Going scope t k one r0 r) where
     upto : (f : ℕ) × (acc : Tree) × (chain scope k one (state t ra) ≡ count (state t r) (λ s. then (one s) (λ e u. more scope k one f (joined op acc e) u)))
@@ -428,21 +407,3 @@ module _ (scope : Scope) (t : List ℕ) (r : Reader) (n : ℕ) (v : Placed Kind)
         pub closed_reads : {U : Type 0} (res : Result U TextRefusal) (r3 : Reader) → Closes scope t r2 res r3 → Reads t r (atom scope (levels scope n) (state t r)) res r3
         closed_reads (Ok x) r3 (u, here, h, p) = closed_took r3 u here h p
         closed_reads (Err f) r3 h = refused_by inside_is (h b.tree)
-
--- the ) that is wanted
-
-close_unwanted : (e : Tree) (s : State) (c : Kind) → (c ≡ Close → ⊥) → closed_at e s c ≡ refused (unwanted c) s.rest
-close_unwanted e s (Number n) h = refl
-close_unwanted e s Large h = refl
-close_unwanted e s (Variable v) h = refl
-close_unwanted e s Unknown h = refl
-close_unwanted e s (Joins o) h = refl
-close_unwanted e s Not h = refl
-close_unwanted e s Open h = refl
-close_unwanted e s Close h = absurd (h refl)
-close_unwanted e s Other h = refl
-close_unwanted e s Misspelt h = refl
-
-pub close_refused : (scope : Scope) (t : List ℕ) (r : Reader) (v : Placed Kind) → Looked scope t r.at v → (v.token ≡ Close → ⊥) → (f : TextRefusal) → UnwantedAt v f → (e : Tree) → Refused (closed scope e (state t r)) f
-close_refused scope t r v look h f w e =
-    refused_here scope t r.at v look (unwanted v.token) _ f (ap (closed_at e (state t r)) (sym look.kind) ∙ close_unwanted e _ v.token h) w.number w.index
