@@ -30,6 +30,7 @@ impl TextRefusal {
     pub fn number(&self) -> u8
         ensures { result ≡ refusal_number self.now }
     {
+        // Kept as a match: `as u8` is for an enum whose cases hold no value.
         match self {
             TextRefusal::TooLong => 1,
             TextRefusal::Spelling(_) => 2,
