@@ -1,4 +1,7 @@
 //! A list of names.
+ghost use Rattle.std.specs.Prelude.{◌≤◌, length};
+ghost use Rattle.names.specs.Limits.{max_names};
+
 use arrayvec::ArrayVec;
 
 /// The most names of a list.
@@ -8,4 +11,5 @@ pub const MAX_NAMES: usize = 16;
 #[derive(Drop)]
 pub struct NameList<'a> {
     pub names: ArrayVec<&'a [u8], MAX_NAMES>,
+    ghost few: { length names.items ≤ max_names },
 }
