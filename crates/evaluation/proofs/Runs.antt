@@ -1,7 +1,9 @@
 -- The items of a tree leave its value on the stack.
 use Rattle.std.proofs.Common.{◌≡◌, ℕ, ◌+◌, ◌*◌, ◌<◌, ◌≤◌, Bool, true, false, ◌&&◌, ltb, List, [], ◌∷◌, ◌++◌, length, get_or, drop, ℤ, pos, negsuc, ◌+ℤ◌, ◌≤ℤ◌, Some, None, Option, sym, refl, ap, ◌∙◌, subst, append_assoc, append-nil, arith}
 use lib.Signed.{le_z}
-use Rattle.std.proofs.lemmas.Bool.{lt-ltb, cond-true, and_from}
+use Rattle.std.proofs.lemmas.Bool.{lt-ltb, cond-true, and_from, ne_eqb}
+use Rattle.std.specs.Prelude.{◌==◌}
+use Rattle.std.specs.Bool.{then_some}
 use Rattle.std.proofs.lemmas.List.{drop_more, drop_all}
 use Rattle.std.proofs.lemmas.Int.{ints}
 use Rattle.expression.specs.Tree.{Tree, number, variable, denial, joined, items, operands, applied, truth, Within}
@@ -10,6 +12,7 @@ use Rattle.expression.specs.declared.Operator.TheVariants.{Or, And, Equal, NotEq
 use Rattle.expression.specs.declared.Item.{Item}
 use Rattle.expression.specs.declared.Item.TheVariants.{Not, Operator as Joins}
 use Rattle.step_rule.specs.Rule.{vars_of, worth}
+use Rattle.step_rule.proofs.Operands.{some_operand}
 use Rattle.evaluation.specs.Postfix.{small, pushed, stepped, single, worked_out, GivesValues}
 
 -- z lies between -n and n.
@@ -30,12 +33,6 @@ applied_sized Less a b m n h p q = truth_sized _ _ (omega arith)
 applied_sized LessEqual a b m n h p q = truth_sized _ _ (omega arith)
 applied_sized Plus a b m n h p q = record { low = omega (arith, ints, p.low, p.high, q.low, q.high); high = omega (arith, ints, p.low, p.high, q.low, q.high) }
 applied_sized Minus a b m n h p q = record { low = omega (arith, ints, p.low, p.high, q.low, q.high); high = omega (arith, ints, p.low, p.high, q.low, q.high) }
-
-pub some_operand : (e : Tree) → 1 ≤ operands e
-some_operand (number k) = omega arith
-some_operand (variable v) = omega arith
-some_operand (denial e) = some_operand e
-some_operand (joined o a b) = omega (arith, some_operand a)
 
 abbrev Bytes : List ℕ → Type 0
 Bytes vs = (v : ℕ) → v < length vs → get_or vs v 0 < 256
@@ -98,9 +95,10 @@ one_more places now' vs code i d st all e l inv =
 pub at_end : (places : ℕ) (vs : List ℕ) (code : List Item) (i : ℕ) (st : List ℤ) (all : Option ℤ) → length code ≤ i → worked_out places vs (drop i code) (Some st) ≡ all → single st ≡ all
 at_end places vs code i st all l inv = ap (λ w. worked_out places vs w (Some st)) (sym (drop_all i code l)) ∙ inv
 
-pub many_left : (z : ℤ) (st : List ℤ) → (length st ≡ 0 → ⊥) → single (z ∷ st) ≡ None
-many_left z [] ne = absurd (ne refl)
-many_left z (y ∷ st) ne = refl
+-- The operand on top is the answer where it is alone.
+pub alone : (z : ℤ) (st : List ℤ) → then_some (length st == 0) z ≡ single (z ∷ st)
+alone z [] = refl
+alone z (y ∷ st) = ap (λ b. then_some b z) (ne_eqb (length (y ∷ st)) 0 (λ e. absurd (omega arith)))
 
 -- The work begins with an empty stack over the room.
 pub begun : (room over : List ℤ) (vs : List ℕ) (code : List Item) (st : List ℤ) → over ≡ room → st ≡ [] →

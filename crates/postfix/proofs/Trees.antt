@@ -8,12 +8,6 @@ use Rattle.expression.specs.declared.Item.TheVariants.{Number, Variable, Not, Op
 use Rattle.step_rule.specs.Programs.{GoodTree}
 use Rattle.postfix.specs.Decoding.{trees, first_of, tree_of, goes_on, admitted, IsExpression}
 
-some_operand : (e : Tree) → 1 ≤ operands e
-some_operand (number k) = omega arith
-some_operand (variable v) = omega arith
-some_operand (denial e) = some_operand e
-some_operand (joined o a b) = omega (arith, some_operand a)
-
 -- The items of a tree leave it on top.
 pub trees_items : (t : Tree) (xs : List Item) (ts : List Tree) → trees (items t ++ xs) ts ≡ trees xs (t ∷ ts)
 trees_items (number k) xs ts = refl

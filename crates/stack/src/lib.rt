@@ -36,7 +36,7 @@ impl<'a, T: Copy> Stack<'a, T> {
     pub fn is_empty(&self) -> bool
         ensures { result ≡ (length (held self.now) == 0) }
     {
-        self.len() == 0
+        self.len == 0
     }
 
     /// Puts `x` on top, or hands it back where the stack is full.
@@ -45,12 +45,12 @@ impl<'a, T: Copy> Stack<'a, T> {
         ensures kept { places self.new ≡ places self.old }
         ensures cases { elim result [ Ok _ ↦ (length (held self.old) < places self.old) × (held self.new ≡ x ∷ held self.old) × (self.new.room.now ≡ slice_set self.old.room.now (length (held self.old)) x) | Err y ↦ (length (held self.old) ≡ places self.old) × (y ≡ x) × (self.new ≡ self.old) ] }
     {
-        if self.has_place() {
-            self.raise(x);
-            Ok(())
-        } else {
-            Err(x)
+        if self.len == self.room.len() {
+            return Err(x);
         }
+        self.room[self.len] = x;
+        self.len += 1;
+        Ok(())
     }
 
     /// Takes the top away, or answers `None` where the stack is empty. The room keeps what it holds.
@@ -59,22 +59,16 @@ impl<'a, T: Copy> Stack<'a, T> {
         ensures kept { self.new.room.now ≡ self.old.room.now }
         ensures cases { elim result [ None ↦ (held self.old ≡ []) × (self.new ≡ self.old) | Some x ↦ held self.old ≡ x ∷ held self.new ] }
     {
-        if self.has_top() {
-            Some(self.lower())
-        } else {
-            None
-        }
+        let top = self.top()?;
+        self.len -= 1;
+        Some(top)
     }
 
     /// The top, which stays.
     pub fn top(&self) -> Option<T>
         ensures { result ≡ top_of (held self.now) }
     {
-        if self.has_top() {
-            Some(self.last())
-        } else {
-            None
-        }
+        self.room[..self.len].last().copied()
     }
 
     /// Puts `x` in place of the top, and answers what was there; `None` where the stack is empty, which then stays so.
@@ -85,66 +79,8 @@ impl<'a, T: Copy> Stack<'a, T> {
         ensures new { held self.new ≡ with_top x (held self.old) }
         ensures put { elim result [ None ↦ self.new ≡ self.old | Some _ ↦ self.new.room.now ≡ set self.old.room.now (length (held self.old) - 1) x ] }
     {
-        if !self.has_top() {
-            return None;
-        }
-        let old = self.lower();
-        self.raise(x);
-        Some(old)
+        let top = self.top()?;
+        self.room[self.len - 1] = x;
+        Some(top)
     }
-
-    /// Whether a place of the room is free.
-    fn has_place(&self) -> bool
-        ensures { MatchBool result (self.now.len < places self.now) (length (held self.now) ≡ places self.now) }
-    {
-        self.len < self.room.len()
-    }
-
-    /// Whether it holds an element.
-    fn has_top(&self) -> bool
-        ensures { MatchBool result (0 < self.now.len) (held self.now ≡ []) }
-    {
-        self.len > 0
-    }
-
-    /// The last element put on.
-    fn last(&self) -> T
-        requires { 0 < self.now.len }
-        ensures { top_of (held self.now) ≡ Some result }
-    {
-        element(self.room, self.len - 1)
-    }
-
-    /// One place more is taken, by `x`.
-    fn raise(&mut self, x: T)
-        requires { self.old.len < places self.old }
-        ensures lent { self.new.room.ghost_name ≡ self.old.room.ghost_name }
-        ensures kept { places self.new ≡ places self.old }
-        ensures fits { length (held self.old) < places self.old }
-        ensures holds { held self.new ≡ x ∷ held self.old }
-        ensures put { self.new.room.now ≡ slice_set self.old.room.now (length (held self.old)) x }
-    {
-        self.room[self.len] = x;
-        self.len += 1;
-    }
-
-    /// One place fewer is taken: what the last one holds.
-    fn lower(&mut self) -> T
-        requires { 0 < self.old.len }
-        ensures lent { self.new.room.ghost_name ≡ self.old.room.ghost_name }
-        ensures same { self.new.room.now ≡ self.old.room.now }
-        ensures holds { held self.old ≡ result ∷ held self.new }
-        ensures free { self.new.len < places self.new }
-    {
-        self.len -= 1;
-        self.room[self.len]
-    }
-}
-
-/// The element at `i`.
-fn element<T: Copy>(room: &[T], i: usize) -> T
-    requires { i < length room.now }
-    ensures { result ≡ slice_index_or room.now i result }
-{
-    room[i]
 }

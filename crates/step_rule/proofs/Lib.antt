@@ -3,3 +3,4 @@ pub mod Remainders
 pub mod Rules
 pub mod Laws
 pub mod Props
+pub mod Operands
