@@ -7,6 +7,7 @@ use system::Region;
 
 /// What a lock declares before its classes and commands: the count of processes; the maximum and the initial value of
 /// each variable; the region of each location; and how many states that makes.
+// Kept as arrays with counts: the record lies in fixed memory, and its limits are those of the language.
 #[derive(Clone, Copy)]
 pub struct Declarations {
     pub(crate) processes: u8,
