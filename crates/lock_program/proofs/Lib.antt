@@ -1,8 +1,8 @@
 pub mod States
+pub mod Growing
 pub mod Entries
 pub mod Assigning
 pub mod Nexts
-pub mod Growing
 pub mod Placing
 pub mod Lasts
 pub mod Adding

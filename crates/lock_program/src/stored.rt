@@ -1,10 +1,23 @@
 //! How commands lie in arrays.
+ghost use Rattle.std.specs.Prelude.{◌≡◌};
 
-/// A part of the items: from `start` up to, and without, `end`.
+use std::ops::Range;
+
+/// A part of a list: from `start` up to, and without, `end`.
 #[derive(Clone, Copy)]
 pub struct Span {
     pub start: u16,
     pub end: u16,
+}
+
+impl Span {
+    /// The places of the part.
+    pub(crate) fn range(self) -> Range<usize>
+        ensures start { result.start ≡ self.start }
+        ensures end { result.end ≡ self.end }
+    {
+        usize::from(self.start)..usize::from(self.end)
+    }
 }
 
 /// A variable, and the items of its right side.
@@ -14,7 +27,7 @@ pub struct StoredAssignment {
     pub source: Span,
 }
 
-/// A command: its guard's items, and its assignments from `first` up to, and without, `last`.
+/// A command: its numbers, its guard's items, and its part of the assignments.
 #[derive(Clone, Copy)]
 pub struct StoredCommand {
     pub process: u8,
@@ -22,6 +35,5 @@ pub struct StoredCommand {
     pub to: u8,
     pub class: Option<u8>,
     pub guard: Span,
-    pub first: u16,
-    pub last: u16,
+    pub assignments: Span,
 }
