@@ -27,13 +27,19 @@ pub struct StoredAssignment {
     pub source: Span,
 }
 
-/// A command: its numbers, its guard's items, and its part of the assignments.
+/// Where a command leads: whose it is, from which location to which, and its class or none.
 #[derive(Clone, Copy)]
-pub struct StoredCommand {
+pub struct Transition {
     pub process: u8,
     pub from: u8,
     pub to: u8,
     pub class: Option<u8>,
+}
+
+/// A command: where it leads, its guard's items, and its part of the assignments.
+#[derive(Clone, Copy)]
+pub struct StoredCommand {
+    pub transition: Transition,
     pub guard: Span,
     pub assignments: Span,
 }
