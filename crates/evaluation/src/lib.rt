@@ -1,7 +1,7 @@
 //! Expressions in postfix order, worked out over the operand stack, and the remainder that an assignment takes.
 #![tactic(auto)]
 
-ghost use Rattle.std.specs.Prelude.{◌≡◌, ◌&&◌, [], ◌∷◌, length, pos, if◌then◌else◌, Some, None, IsTrue};
+ghost use Rattle.std.specs.Prelude.{◌≡◌, ◌&&◌, [], ◌∷◌, length, pos, if◌then◌else◌, Some, None, IsTrue, MatchOption};
 ghost use Rattle.stack.specs.Held.{held, places};
 ghost use Rattle.expression.specs.Tree.{applied as joint, denied as inverse, truth, is_true};
 ghost use Rattle.step_rule.specs.Rule.{remainder as least_remainder};
@@ -64,7 +64,7 @@ fn applied(operator: Operator, a: i32, b: i32) -> Option<i32>
 /// One operand more, or `None` where the stack is full.
 fn push(stack: &mut Stack<'_, i32>, z: i32) -> Option<()>
     ensures kept { places stack.new ≡ places stack.old }
-    ensures told { elim result [ None ↦ pushed (places stack.old) z (held stack.old) ≡ None | Some _ ↦ pushed (places stack.old) z (held stack.old) ≡ Some (held stack.new) ] }
+    ensures told { MatchOption result (pushed (places stack.old) z (held stack.old) ≡ None) (λ _. pushed (places stack.old) z (held stack.old) ≡ Some (held stack.new)) }
 {
     stack.push(z).ok()
 }
@@ -72,7 +72,7 @@ fn push(stack: &mut Stack<'_, i32>, z: i32) -> Option<()>
 /// One item more is worked out, or `None` where that cannot be.
 fn step(item: Item, values: &[u8], stack: &mut Stack<'_, i32>) -> Option<()>
     ensures kept { places stack.new ≡ places stack.old }
-    ensures told { elim result [ None ↦ stepped (places stack.old) values.now item (held stack.old) ≡ None | Some _ ↦ stepped (places stack.old) values.now item (held stack.old) ≡ Some (held stack.new) ] }
+    ensures told { MatchOption result (stepped (places stack.old) values.now item (held stack.old) ≡ None) (λ _. stepped (places stack.old) values.now item (held stack.old) ≡ Some (held stack.new)) }
 {
     match item {
         Item::Number(n) => push(stack, i32::from(n)),

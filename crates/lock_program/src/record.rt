@@ -8,6 +8,7 @@ use expression::Item;
 
 /// A lock program: its declarations, the count of its classes, its commands and their assignments, and the postfix items
 /// of all guards and right sides.
+// Kept as arrays with counts: the record of a program lies in fixed memory, and nothing of it is allocated.
 #[derive(Drop)]
 pub struct LockProgram {
     pub(crate) declarations: Declarations,

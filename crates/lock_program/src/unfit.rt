@@ -5,8 +5,10 @@
 pub enum Unfit {
     /// The declarations are not within their limits.
     Declarations,
-    /// The classes are too many, or there are commands already.
+    /// The classes are too many.
     Classes,
+    /// The classes come after commands.
+    Late,
     /// There is no room for one more command, or one of its numbers is out of range.
     Command,
     /// There is no such variable.

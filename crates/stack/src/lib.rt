@@ -41,6 +41,7 @@ impl<'a, T: Copy> Stack<'a, T> {
 
     /// Puts `x` on top, or hands it back where the stack is full.
     pub fn push(&mut self, x: T) -> Result<(), T>
+        // Kept in three contracts: that the loan stays is said of two states, and no invariant or view of one can say it.
         ensures lent { self.new.room.ghost_name ≡ self.old.room.ghost_name }
         ensures kept { places self.new ≡ places self.old }
         ensures cases { elim result [ Ok _ ↦ (length (held self.old) < places self.old) × (held self.new ≡ x ∷ held self.old) × (self.new.room.now ≡ slice_set self.old.room.now (length (held self.old)) x) | Err y ↦ (length (held self.old) ≡ places self.old) × (y ≡ x) × (self.new ≡ self.old) ] }

@@ -6,17 +6,10 @@ mod tests {
     use stack::Stack;
 
     // A state and the next command to try there.
-    #[derive(Clone, Copy)]
+    #[derive(Clone, Copy, Debug, PartialEq, Eq)]
     struct Frame {
         state: u32,
         next: u8,
-    }
-
-    fn parts(frame: Option<Frame>) -> Option<(u32, u8)> {
-        match frame {
-            Some(frame) => Some((frame.state, frame.next)),
-            None => None,
-        }
     }
 
     #[test]
@@ -56,13 +49,13 @@ mod tests {
         let second = Frame { state: 5, next: 2 };
         let mut room = [first; 1];
         let mut stack = Stack::new(&mut room);
-        assert_eq!(rt; parts(stack.replace_top(first)), None);
-        assert_eq!(rt; parts(stack.top()), None);
-        assert!(rt; stack.push(first).is_ok());
-        assert!(rt; stack.push(second).is_err());
-        assert_eq!(rt; parts(stack.replace_top(second)), Some((4, 0)));
-        assert_eq!(rt; parts(stack.pop()), Some((5, 2)));
-        assert_eq!(rt; parts(stack.pop()), None);
+        assert_eq!(rt; stack.replace_top(first), None);
+        assert_eq!(rt; stack.top(), None);
+        assert_eq!(rt; stack.push(first), Ok(()));
+        assert_eq!(rt; stack.push(second), Err(second));
+        assert_eq!(rt; stack.replace_top(second), Some(first));
+        assert_eq!(rt; stack.pop(), Some(second));
+        assert_eq!(rt; stack.pop(), None);
     }
 
     #[test]

@@ -1,7 +1,7 @@
 -- The system of a well-formed program is lawful.
-use Rattle.std.proofs.Common.{◌≡◌, ℕ, zero, suc, ◌<◌, ◌≤◌, false, ◌&&◌, ltb, ◌⊎◌, List, length, replicate, Some, None, Option, refl, subst, inl, inr, arith}
-use Rattle.std.proofs.lemmas.Bool.{le-ltb, and_left, and_right, cond-false, cases_lt}
-use Rattle.std.proofs.lemmas.Option.{slice_get_past}
+use Rattle.std.proofs.Common.{◌≡◌, ℕ, zero, suc, ◌<◌, ◌≤◌, false, ◌&&◌, ltb, ◌⊎◌, length, replicate, Some, None, Option, refl, subst, inl, inr, arith}
+use Rattle.std.proofs.lemmas.Bool.{le-ltb, and_left, and_right, cond-false}
+use Rattle.std.proofs.lemmas.Option.{slice_get_within}
 use Rattle.std.specs.List.{slice_get}
 use Rattle.system.specs.Justice.{Lawful}
 use Rattle.step_rule.specs.Programs.{Program, Command, DigitsBelow, GoodClass}
@@ -18,11 +18,6 @@ zeros_below (suc n) l h = (h, zeros_below n l h)
 pub start_is_state : (p : Program) → WellFormed p → IsState p (start_state p)
 start_is_state p wf = record { values_below = wf.initials_below; places_below = zeros_below p.processes (length p.locations) wf.some_location }
 
--- A place with an entry is within the list.
-nth_inside : {X : Type 0} (xs : List X) (k : ℕ) (x : X) → slice_get xs k ≡ Some x → k < length xs
-nth_inside xs k x e =
-    elim (cases_lt k (length xs)) [ inl l ↦ l | inr g ↦ (let f = slice_get_past xs k g in absurd (let z : ◌≡◌ {A = ℕ} 0 1 = cc in let b : ⊥ = omega arith in b)) ]
-
 outside : (s n q m : ℕ) → (n ≤ s) ⊎ (m ≤ q) → (ltb s n && ltb q m) ≡ false
 outside s n q m (inl h) = and_left (ltb s n) (ltb q m) (le-ltb s n h)
 outside s n q m (inr h) = and_right (ltb s n) (ltb q m) (le-ltb q m h)
@@ -36,7 +31,7 @@ class_there p wf k j e = go (slice_get p.commands k) refl e
   where
     go : (o : Option Command) → slice_get p.commands k ≡ o → class_by o ≡ Some j → (k < length p.commands) × (j < p.classes)
     go None f g = absurd (let z : ◌≡◌ {A = ℕ} 0 1 = cc in let b : ⊥ = omega arith in b)
-    go (Some c) f g = (nth_inside p.commands k c f, class_good p.classes j c.class (good_at p wf k c f).class_below g)
+    go (Some c) f g = (slice_get_within p.commands k c f, class_good p.classes j c.class (good_at p wf k c f).class_below g)
 
 pub meaning_lawful : (p : Program) → WellFormed p → Lawful (meaning_of p)
 meaning_lawful p wf = record {
@@ -49,7 +44,7 @@ meaning_lawful p wf = record {
     next_below = λ s k t e.
         let w = some_inside p s k t e in
         let c = w.1.0 in
-        (w.0, nth_inside p.commands k c w.1.1, subst (λ n. n < state_count p) w.1.3 (code_below p (after p c (state_of p s)) (after_is_state p c (good_at p wf k c w.1.1) (state_of p s) (state_there p s w.0))));
+        (w.0, slice_get_within p.commands k c w.1.1, subst (λ n. n < state_count p) w.1.3 (code_below p (after p c (state_of p s)) (after_is_state p c (good_at p wf k c w.1.1) (state_of p s) (state_there p s w.0))));
     region_outside = λ s q o. cond-false _ _ _ (outside s (state_count p) q p.processes o);
   };
   few_classes = wf.few_classes;
