@@ -122,6 +122,7 @@ pub fn check_certificate<S: System>(system: &S, bytes: &[u8]) -> Result<(), Refu
     ensures all { AcceptedCertificate (S.meaning system.now) bytes.now → result ≡ Ok tt }
     ensures correct { result ≡ Ok tt → CorrectLock (S.meaning system.now) }
 {
+    // Kept as a match: each kind of rank is a type of its own, so what is called differs in its type.
     match bytes {
         [] => Err(Refusal::Length { at: 0 }),
         [1, ..] => check_certificate_of::<Single, S>(system, bytes),

@@ -21,6 +21,7 @@ impl Refusal {
     pub fn number(self) -> u8
         ensures { result ≡ number self }
     {
+        // Kept as a match: `as u8` is for an enum whose cases hold no value.
         match self {
             Refusal::Length { .. } => 21,
             Refusal::KindByte => 22,

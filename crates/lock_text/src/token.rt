@@ -42,6 +42,7 @@ impl Mark {
     pub fn width(self) -> usize
         ensures { result ≡ length (mark_spelling self) }
     {
+        // Kept as a match: two marks may have one width, so no discriminant is it.
         match self {
             Mark::Equal | Mark::NotEqual | Mark::LessEqual => 2,
             _ => 1,

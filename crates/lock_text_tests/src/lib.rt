@@ -105,6 +105,7 @@ mod tests {
             .ok_or_else(|| Fail::new("no token"))
     }
 
+    // Kept as four tests, here and below: the name of one that fails says which kind of token is wrong.
     #[test]
     fn words(rt: HostRuntime) -> Result<(), Fail> {
         for (text, want) in WORDS {

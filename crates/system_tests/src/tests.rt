@@ -38,32 +38,31 @@ fn steps<S: System>(s: &S) -> (Option<u32>, Option<u32>, Option<u32>) {
     (s.successor(0, 0), s.successor(1, 1), s.successor(2, 2))
 }
 
+// What the question answers at the first three states.
+fn first_three<T, F: Fn(u32) -> T>(question: F) -> (T, T, T)
+    requires { F.IsAlwaysCallable question }
+{
+    (question(0), question(1), question(2))
+}
+
 // Whether the class is enabled at the first three states.
 fn enabled<S: System>(s: &S, class: u8) -> (bool, bool, bool) {
-    (
-        class_enabled(s, 0, class),
-        class_enabled(s, 1, class),
-        class_enabled(s, 2, class),
-    )
+    first_three(|state| class_enabled(s, state, class))
 }
 
 // The holder masks of the first three states.
 fn holders<S: System>(s: &S) -> (u8, u8, u8) {
-    (holder_mask(s, 0), holder_mask(s, 1), holder_mask(s, 2))
+    first_three(|state| holder_mask(s, state))
 }
 
 // Which of the first three states are clashes.
 fn clashes<S: System>(s: &S) -> (bool, bool, bool) {
-    (is_clash(s, 0), is_clash(s, 1), is_clash(s, 2))
+    first_three(|state| is_clash(s, state))
 }
 
 // The numbers of the process's regions in the first three states.
 fn regions<S: System>(s: &S, process: u8) -> (u8, u8, u8) {
-    (
-        s.region(0, process).number(),
-        s.region(1, process).number(),
-        s.region(2, process).number(),
-    )
+    first_three(|state| s.region(state, process).number())
 }
 
 #[test]
