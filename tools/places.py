@@ -222,7 +222,7 @@ def point_7(files, functions):
     for f in functions:
         for found in re.finditer(r'\bmatch [^{]*\{', f.body):
             arms = split(f.body[found.end():closing(f.body, found.end() - 1) - 1])
-            calls = [re.search(r'=>\s*[\w:<>, ]+?\((.*)\)$', arm, re.S) for arm in arms]
+            calls = [re.search(r'=>\s*[\w.:<>, ]+?\((.*)\)$', arm, re.S) for arm in arms]
             args = collections.Counter(c.group(1) for c in calls if c and c.group(1).count(',') >= 1)
             if args and args.most_common(1)[0][1] >= 2:
                 yield f.where(found.start()) + ': a switch on which step to run'

@@ -16,7 +16,7 @@ fn successors_of<S: System>(system: &S, state: u32) -> [Option<u32>; 64]
     ensures { (k : ℕ) → slice_index_or result k None ≡ (S.meaning system.now).steps.next state k }
 {
     let mut successors = [None; 64];
-    // Kept by index: of a part of an array that is written through `iter_mut` a proof knows nothing afterwards.
+    // Kept by index: written through an adapter of `iter_mut`, or made by `array::from_fn`, the entries are not known to a proof.
     for command in 0..system.commands() {
         successors[command as usize] = system.successor(state, command);
     }

@@ -43,13 +43,28 @@ mod tests {
 
     const UNCLASSED_REGIONS: [[Region; 1]; 3] = [[Idle], [Try], [Crit]];
 
-    fn unclassed() -> Result<Table<'static>, Fail> {
+    // The lock with so many processes, classes, commands and states, and these entries; it starts in state 0.
+    fn lock(
+        (processes, classes, commands, states): (u8, u8, u8, u32),
+        successors: &'static [Option<u32>],
+        classed: &'static [Option<u8>],
+        regions: &'static [Region],
+    ) -> Result<Table<'static>, Fail> {
         Ok(Table {
-            shape: Shape::new(1, 1, 3, 3, 0).ok_or("shape")?,
-            successors: UNCLASSED_SUCCESSORS.as_flattened(),
-            classed: &UNCLASSED_CLASSES,
-            regions: UNCLASSED_REGIONS.as_flattened(),
+            shape: Shape::new(processes, classes, commands, states, 0).ok_or("shape")?,
+            successors,
+            classed,
+            regions,
         })
+    }
+
+    fn unclassed() -> Result<Table<'static>, Fail> {
+        lock(
+            (1, 1, 3, 3),
+            UNCLASSED_SUCCESSORS.as_flattened(),
+            &UNCLASSED_CLASSES,
+            UNCLASSED_REGIONS.as_flattened(),
+        )
     }
 
     // Two processes and a bit that each tests and sets. A state is the bit, then the places of process 0 and process 1, as
@@ -99,12 +114,12 @@ mod tests {
     ];
 
     fn test_and_set() -> Result<Table<'static>, Fail> {
-        Ok(Table {
-            shape: Shape::new(2, 2, 6, 18, 0).ok_or("shape")?,
-            successors: TEST_AND_SET_SUCCESSORS.as_flattened(),
-            classed: &TEST_AND_SET_CLASSES,
-            regions: TEST_AND_SET_REGIONS.as_flattened(),
-        })
+        lock(
+            (2, 2, 6, 18),
+            TEST_AND_SET_SUCCESSORS.as_flattened(),
+            &TEST_AND_SET_CLASSES,
+            TEST_AND_SET_REGIONS.as_flattened(),
+        )
     }
 
     // Two processes that enter crit as they like: state 3 is a clash.
@@ -125,12 +140,12 @@ mod tests {
     ];
 
     fn open_door() -> Result<Table<'static>, Fail> {
-        Ok(Table {
-            shape: Shape::new(2, 0, 2, 4, 0).ok_or("shape")?,
-            successors: OPEN_DOOR_SUCCESSORS.as_flattened(),
-            classed: &OPEN_DOOR_CLASSES,
-            regions: OPEN_DOOR_REGIONS.as_flattened(),
-        })
+        lock(
+            (2, 0, 2, 4),
+            OPEN_DOOR_SUCCESSORS.as_flattened(),
+            &OPEN_DOOR_CLASSES,
+            OPEN_DOOR_REGIONS.as_flattened(),
+        )
     }
 
     #[test]
