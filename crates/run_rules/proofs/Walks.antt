@@ -1,22 +1,9 @@
--- What the loops over the steps of a part of a run gather.
-use Rattle.std.proofs.Common.{◌≡◌, ℕ, ◌+◌, ◌<◌, ◌≤◌, min, Bool, true, false, not, cond, ◌&&◌, List, [], ◌∷◌, map, filter, fold, length, get_or, drop, Some, None, Ok, Err, Option, refl, ap, ◌∙◌}
+-- What is gathered over the states that the steps of a part of a run are taken in.
+use Rattle.std.proofs.Common.{◌≡◌, ℕ, min, Bool, true, false, not, cond, ◌&&◌, List, [], ◌∷◌, map, filter, fold, Some, None, Option, refl, ap}
 use Rattle.std.specs.List.{list_all, reduce}
-use Rattle.std.proofs.lemmas.List.{at_drop_more, at_drop_all}
 use Rattle.system.specs.Transitions.{Transitions}
 use Rattle.system.specs.Justice.{FairSystem}
-use Rattle.run_refusal.specs.declared.RunRefusal.TheVariants.{StepDisabled}
-use Rattle.run_rules.specs.Judging.{or_else, after, visits, walked, is_try, lower, least_idle, owed, neglected}
-
--- What is left to walk after the first i steps, where the next leads to o.
-module _ (T : Transitions) (xs : List ℕ) (i s : ℕ) where
-  pub walked_end : (n : ℕ) → length xs ≤ i → walked T s n (drop i xs) ≡ Ok s
-  walked_end n h = at_drop_all (walked T s n) xs i h
-
-  pub walked_more : (n : ℕ) (o : Option ℕ) → i < length xs → after T s (get_or xs i 0) ≡ o →
-      walked T s n (drop i xs) ≡ or_else o (λ t. walked T t (n + 1) (drop (i + 1) xs)) (Err (StepDisabled n (get_or xs i 0)))
-  walked_more n o h e =
-      at_drop_more (walked T s n) xs i 0 h
-      ∙ ap (λ o. or_else o (λ t. walked T t (n + 1) (drop (i + 1) xs)) (Err (StepDisabled n (get_or xs i 0)))) e
+use Rattle.run_rules.specs.Judging.{or_else, after, visits, is_try, lower, least_idle, owed, neglected}
 
 -- The states visited where p does not wait.
 abbrev pub idle_states : Transitions → ℕ → List (ℕ × ℕ) → List ℕ
