@@ -1,5 +1,5 @@
 -- A correct lock has no bad run. Assumes nothing.
-use Rattle.std.proofs.Common.{◌≡◌, ℕ, List, Ok, Err, Result, subst}
+use Rattle.std.proofs.Common.{◌≡◌, ℕ, List, Ok, Result, subst, MatchResult}
 use Rattle.system.specs.Justice.{FairSystem, CorrectLock}
 use Rattle.lasso.specs.BadRuns.{clash, lockout}
 use Rattle.lasso.proofs.Lasso.{bad_run_breaks_lock_lem}
@@ -12,6 +12,6 @@ no_bad_bytes S correct bytes (clash_bytes stem few run e) = bad_run_breaks_lock_
 no_bad_bytes S correct bytes (lockout_bytes p stem loop few few' run e) = bad_run_breaks_lock_lem S (lockout p stem loop run) correct
 
 pub apart : (S : FairSystem) → CorrectLock S → (bytes : List ℕ) (r : Result (Unit {0}) RunRefusal)
-    → (elim r as (λ x. Type 0) [ Ok _ ↦ BadBytes S bytes | Err e ↦ RightRefusal S bytes e ]) → ¬ (r ≡ Ok tt)
+    → MatchResult r (λ _. BadBytes S bytes) (RightRefusal S bytes) → ¬ (r ≡ Ok tt)
 apart S correct bytes r right e =
-    no_bad_bytes S correct bytes (subst (λ (x : Result (Unit {0}) RunRefusal). elim x as (λ y. Type 0) [ Ok _ ↦ BadBytes S bytes | Err d ↦ RightRefusal S bytes d ]) e right)
+    no_bad_bytes S correct bytes (subst (λ (x : Result (Unit {0}) RunRefusal). MatchResult x (λ _. BadBytes S bytes) (RightRefusal S bytes)) e right)
