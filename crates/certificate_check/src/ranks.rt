@@ -16,7 +16,7 @@ fn successors_of<S: System>(system: &S, state: u32) -> [Option<u32>; 64]
     ensures { (k : ℕ) → slice_index_or result k None ≡ (S.meaning system.now).steps.next state k }
 {
     let mut successors = [None; 64];
-    // Kept by index: written through an adapter of `iter_mut`, or made by `array::from_fn`, the entries are not known to a proof.
+    // Kept by index: a command is what the system is asked, and no mere place in the array.
     for command in 0..system.commands() {
         successors[command as usize] = system.successor(state, command);
     }

@@ -24,9 +24,8 @@ fn row_lists(cursor: &mut Cursor) -> Result<[usize; 8], Refusal>
     ensures moves { OnOk result (Moved cursor.old cursor.new (list_start cursor.old.limits.numbers cursor.old.bytes.now cursor.old.at cursor.old.limits.processes)) }
 {
     let mut starts = [0; 8];
-    // Kept by index: of an array that is written through an adapter of `iter_mut` a proof knows nothing afterwards.
-    for p in 0..cursor.limits.processes {
-        starts[p as usize] = cursor.at;
+    for start in starts[..cursor.limits.processes as usize].iter_mut() {
+        *start = cursor.at;
         cursor.list::<RowEntry>()?;
     }
     Ok(starts)

@@ -4,15 +4,14 @@ use Rattle.certificate_theory.specs.Content.{list_start}
 use Rattle.certificate_read.specs.Moves.{Moved, fault_at}
 use Rattle.certificate_read.proofs.row_lists.Given as goal
 
-abbrev pub invariant-loop-p : goal.invariant-loop-p
-invariant-loop-p l =
+abbrev pub invariant-loop-start : goal.invariant-loop-start
+invariant-loop-start l =
     let o = l.fn.cursor in
     let n = o.limits.numbers in
     let m = o.limits.processes in
     record {
-      count : l.p-end ≡ m;
-      eight : length l.starts ≡ 8;
-      begin : (q : ℕ) → q < l.p → get_or l.starts q 0 ≡ list_start n o.bytes.now o.at q;
-      moved : Moved o l.cursor (list_start n o.bytes.now o.at l.p);
-      left : fault_at l.cursor (row_lists n l.cursor.bytes.now l.cursor.at (m - l.p)) ≡ fault_at o (row_lists n o.bytes.now o.at m);
+      count : length l.start-items ≡ m;
+      begin : (q : ℕ) → q < l.start-index → get_or l.start-items q 0 ≡ list_start n o.bytes.now o.at q;
+      moved : Moved o l.cursor (list_start n o.bytes.now o.at l.start-index);
+      left : fault_at l.cursor (row_lists n l.cursor.bytes.now l.cursor.at (m - l.start-index)) ≡ fault_at o (row_lists n o.bytes.now o.at m);
     }
