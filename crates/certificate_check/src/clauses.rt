@@ -71,6 +71,7 @@ impl<'a, 'b, R: Rank, S: System> Judging<'a, 'b, R, S> {
     }
 
     // The rows are the listed states where their process waits.
+    // Kept beside `class_failure`, which has another test: a closure that captures `self` gets no contract from its body.
     pub(crate) fn rows_failure(&self, state: u32, limit: u8) -> Option<Spot>
         ensures { LeastSpot (λ p k. RowsExactAt (S.meaning self.now.system.now) (certificate_of self.now.view) p state) limit result }
     {
