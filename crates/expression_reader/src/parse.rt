@@ -36,6 +36,7 @@ impl Reader {
     fn part(&mut self, source: Source, binding: Binding, left: usize) -> Result<(), TextRefusal>
         ensures { ReadsBy (part binding) source.entry left self.old result self.new }
     {
+        // Kept as a match: the four parts are those of the grammar, and each has a name there.
         match binding {
             Binding::Or => self.parts(source, Binding::And, left),
             Binding::And => self.factor(source, left),

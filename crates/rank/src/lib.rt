@@ -16,8 +16,6 @@ pub use single::Single;
 pub trait Rank: Copy {
     ghost kind: { Kind };
 
-    ghost lawful: { LawfulKind kind };
-
     ghost value: { Self → List ℕ };
 
     /// The kind byte of certificates with such ranks.
@@ -37,6 +35,8 @@ pub trait Rank: Copy {
 
     fn is_same(&self, other: &Self) -> bool
         ensures { result ≡ kind.same (value self.now) (value other.now) };
+
+    ghost lawful: { LawfulKind kind };
 }
 
 /// A row of a certificate: at `state` the process waits, the class is enabled, and the rank is as told.

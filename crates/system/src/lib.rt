@@ -33,8 +33,6 @@ impl Region {
 pub trait System {
     ghost meaning: { Self → FairSystem };
 
-    ghost lawful: { (s : Self) → Lawful (meaning s) };
-
     fn processes(&self) -> u8
         ensures { result ≡ (meaning self.now).steps.processes };
 
@@ -58,4 +56,6 @@ pub trait System {
 
     fn region(&self, state: u32, process: u8) -> Region
         ensures { result ≡ (meaning self.now).steps.region state process };
+
+    ghost lawful: { (s : Self) → Lawful (meaning s) };
 }

@@ -14,13 +14,13 @@ returns-in_err-starts g c =
     let p = err_from_is_err_and c.from_residual.result c.from_residual.ensures.1 in
     let K = g.R.Rank.kind in
     let S = g.S.System.meaning c.args.system.now in
-    let law = g.S.System.lawful c.args.system.now in
+    let law = g.met.S.System.lawful c.args.system.now in
     let bs = c.args.bytes.now in
     let a : Answered {X = Unit {0}} K S bs (Err c.in_err-starts.field-0.0) = inl c.in_err-starts.ensures.told in
     rw (p.1, p.2) (record {
       answered = a;
       all = answered_all K S law bs (Err c.in_err-starts.field-0.0) a;
-      correct = answer_is_correct K g.R.Rank.lawful S law bs (Err c.in_err-starts.field-0.0) a;
+      correct = answer_is_correct K g.met.R.Rank.lawful S law bs (Err c.in_err-starts.field-0.0) a;
     })
 
 pub invariant_of-view : goal.invariant_of-view
@@ -29,7 +29,7 @@ invariant_of-view g c =
     let back = sym c.limits_of-limits.ensures in
     let r = c.in_ok-starts.ensures in
     record {
-      few = subst (λ (M : Limits). M.processes ≤ 8) back (g.S.System.lawful c.args.system.now).steps.few_processes;
+      few = subst (λ (M : Limits). M.processes ≤ 8) back (g.met.S.System.lawful c.args.system.now).steps.few_processes;
       reads = reads_are_whole c.limits_of-limits.result bs (subst (λ (M : Limits). Reads M bs) back r.told);
       begins = subst (λ (M : Limits). (p : ℕ) → p < M.processes → get_or c.in_ok-starts.starts p 0 ≡ rows_start M.numbers bs p) back r.begins;
     }
@@ -38,7 +38,7 @@ pub returns : goal.returns
 returns g c =
     let K = g.R.Rank.kind in
     let S = g.S.System.meaning c.args.system.now in
-    let law = g.S.System.lawful c.args.system.now in
+    let law = g.met.S.System.lawful c.args.system.now in
     let bs = c.args.bytes.now in
     let same = c.limits_of-limits.ensures in
     let reads = subst (λ (M : Limits). Reads M bs) (sym same) c.in_ok-starts.ensures.told in
@@ -46,5 +46,5 @@ returns g c =
     record {
       answered = a;
       all = answered_all K S law bs c.judge.result a;
-      correct = answer_is_correct K g.R.Rank.lawful S law bs c.judge.result a;
+      correct = answer_is_correct K g.met.R.Rank.lawful S law bs c.judge.result a;
     }

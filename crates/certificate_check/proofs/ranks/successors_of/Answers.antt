@@ -10,7 +10,7 @@ loop-command-preserved g c =
     let i = c.loop-command.invariant in
     let k₀ = c.loop-command.command in
     let n = c.commands-command-end.ensures in
-    let few = (g.S.System.lawful c.args.system.now).steps.few_commands in
+    let few = (g.met.S.System.lawful c.args.system.now).steps.few_commands in
     let long = i.0 in
     let lt : k₀ < length c.loop-command.successors = omega (arith, c.loop-command-test.true) in (
       length-set c.loop-command.successors k₀ c.successor.result ∙ long,
@@ -28,5 +28,5 @@ returns g c = λ k.
     let kept = c.loop-command.auto.command-end in
     elim (below_or_past k c.loop-command.command) [
       | inl h ↦ c.loop-command.invariant.1 k h
-      | inr h ↦ c.loop-command.invariant.2 k h ∙ sym (no_successor m (g.S.System.lawful c.args.system.now) c.args.state k (omega arith))
+      | inr h ↦ c.loop-command.invariant.2 k h ∙ sym (no_successor m (g.met.S.System.lawful c.args.system.now) c.args.state k (omega arith))
     ]

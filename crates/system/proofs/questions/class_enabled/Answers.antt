@@ -12,7 +12,7 @@ returns-then-helps g c =
     sym (some_here (enables S c.args.state c.args.class) c.loop-k.k S.steps.commands l (sym c.if-helps.ensures)) in
     record {
       told = t;
-      decides = class_enabled_told S (g.S.System.lawful c.args.system.now) c.args.state c.args.class _ t;
+      decides = class_enabled_told S (g.met.S.System.lawful c.args.system.now) c.args.state c.args.class _ t;
     }
 
 pub loop-k-preserved : goal.loop-k-preserved
@@ -28,5 +28,5 @@ returns g c =
     sym c.loop-k.invariant ∙ ap (some_below (enables S c.args.state c.args.class)) n in
     record {
       told = t;
-      decides = class_enabled_told S (g.S.System.lawful c.args.system.now) c.args.state c.args.class _ t;
+      decides = class_enabled_told S (g.met.S.System.lawful c.args.system.now) c.args.state c.args.class _ t;
     }

@@ -11,7 +11,7 @@ loop-p-preserved g c =
     let d = doubled p in
     let more = holders_more T c.args.state p in
     let i = c.loop-p.invariant in
-    let most = (g.S.System.lawful c.args.system.now).steps.few_processes in
+    let most = (g.met.S.System.lawful c.args.system.now).steps.few_processes in
     let n = c.processes-p-end.ensures in
     let lt : p < 8 = omega arith in
     elim c.if-holds.branch [

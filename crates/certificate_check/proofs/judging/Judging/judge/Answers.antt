@@ -9,7 +9,7 @@ loop-clause-init g c = none_first g.R.Rank.kind (g.S.System.meaning c.args.self.
 pub returns-in-Some : goal.returns-in-Some
 returns-in-Some g c =
     let v = c.args.self.now.view in
-    clause_refused g.R.Rank.kind (g.S.System.meaning c.args.self.now.system.now) (g.S.System.lawful c.args.self.now.system.now) v.bytes.now v.limits c.args.self.now.limits
+    clause_refused g.R.Rank.kind (g.S.System.meaning c.args.self.now.system.now) (g.met.S.System.lawful c.args.self.now.system.now) v.bytes.now v.limits c.args.self.now.limits
     (whole_reads v.limits v.bytes.now v.reads) c.loop-clause.clause-index _ c.in-Some.point c.loop-clause-test.true c.loop-clause.invariant
     c.in-Some.ensures c.refusal_of.result c.refusal_of.ensures
 
@@ -17,11 +17,11 @@ pub loop-clause-preserved : goal.loop-clause-preserved
 loop-clause-preserved g c =
     let v = c.args.self.now.view in
     one_more g.R.Rank.kind (g.S.System.meaning c.args.self.now.system.now) (certificate_of v) c.loop-clause.clause-index _ c.loop-clause-test.true c.loop-clause.invariant
-    (clause_holds g.R.Rank.kind (g.S.System.meaning c.args.self.now.system.now) (g.S.System.lawful c.args.self.now.system.now) v.bytes.now v.limits c.args.self.now.limits
+    (clause_holds g.R.Rank.kind (g.S.System.meaning c.args.self.now.system.now) (g.met.S.System.lawful c.args.self.now.system.now) v.bytes.now v.limits c.args.self.now.limits
     (whole_reads v.limits v.bytes.now v.reads) _ c.in_default.ensures)
 
 pub returns : goal.returns
 returns g c =
     let v = c.args.self.now.view in
-    rule_met g.R.Rank.kind (g.S.System.meaning c.args.self.now.system.now) (g.S.System.lawful c.args.self.now.system.now) v.bytes.now v.limits c.args.self.now.limits
+    rule_met g.R.Rank.kind (g.S.System.meaning c.args.self.now.system.now) (g.met.S.System.lawful c.args.self.now.system.now) v.bytes.now v.limits c.args.self.now.limits
     (whole_reads v.limits v.bytes.now v.reads) c.loop-clause.clause-index c.loop-clause-test.false c.loop-clause.invariant
