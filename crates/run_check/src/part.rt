@@ -46,9 +46,9 @@ struct Visits<'a, S> {
 impl<'a, S: System> Iterator for Visits<'a, S> {
     type Item = (u32, u8);
 
-    ghost next_gives = { YieldsFirst (λ v. visits (S.System.meaning v.system.now).steps v.state v.steps.now) };
+    ghost next_gives = { YieldsFirst (λ v. visits (S.meaning v.system.now).steps v.state v.steps.now) };
 
-    ghost remaining = { item_count (λ v. visits (S.System.meaning v.system.now).steps v.state v.steps.now) };
+    ghost remaining = { item_count (λ v. visits (S.meaning v.system.now).steps v.state v.steps.now) };
 
     fn next(&mut self) -> Option<(u32, u8)> {
         let (step, rest) = self.steps.split_first()?;

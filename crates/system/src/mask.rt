@@ -28,9 +28,9 @@ fn is_set(mask: u64, command: u8) -> bool
 }
 
 impl<S: System> System for Mask<S> {
-    ghost meaning = { λ m. masked m.mask (S.System.meaning m.inner) };
+    ghost meaning = { λ m. masked m.mask (S.meaning m.inner) };
 
-    ghost lawful = { λ m. masked_lawful m.mask (S.System.meaning m.inner) (S.System.lawful m.inner) };
+    ghost lawful = { λ m. masked_lawful m.mask (S.meaning m.inner) (S.lawful m.inner) };
 
     fn processes(&self) -> u8 {
         self.inner.processes()
@@ -82,7 +82,7 @@ fn layers<S: System>(inner: S, below: u64, above: u64) -> Mask<Mask<S>>
 /// The system under two masks, `below` first and `above` over it: it means the system under their union.
 pub fn pile<S: System>(inner: S, below: u64, above: u64) -> Mask<Mask<S>>
     ensures held { (result.inner.inner ≡ inner) × (result.inner.mask ≡ below) × (result.mask ≡ above) }
-    ensures union { masked result.mask (masked result.inner.mask (S.System.meaning result.inner.inner)) ≡ masked (bit_or above below) (S.System.meaning inner) }
+    ensures union { masked result.mask (masked result.inner.mask (S.meaning result.inner.inner)) ≡ masked (bit_or above below) (S.meaning inner) }
 {
     layers(inner, below, above)
 }
