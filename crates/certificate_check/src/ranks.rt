@@ -16,7 +16,7 @@ fn successors_of<S: System>(system: &S, state: u32) -> [Option<u32>; 64]
     ensures { (k : ℕ) → slice_index_or result k None ≡ (S.meaning system.now).steps.next state k }
 {
     let mut successors = [None; 64];
-    // Kept by index: a command is what the system is asked, and no mere place in the array.
+    // Kept by index: the array is fixed memory, and of what `array::from_fn` makes the proof did not get the entries.
     for command in 0..system.commands() {
         successors[command as usize] = system.successor(state, command);
     }

@@ -23,6 +23,7 @@ fn row_lists(cursor: &mut Cursor) -> Result<[usize; 8], Refusal>
     ensures begins { IfOk result (λ starts. (p : ℕ) → p < cursor.old.limits.processes → slice_index starts p ≡ list_start cursor.old.limits.numbers cursor.old.bytes.now cursor.old.at p) }
     ensures moves { OnOk result (Moved cursor.old cursor.new (list_start cursor.old.limits.numbers cursor.old.bytes.now cursor.old.at cursor.old.limits.processes)) }
 {
+    // Kept as an array of 8, with the count in the limits: a judge's call allocates nothing.
     let mut starts = [0; 8];
     for start in starts[..cursor.limits.processes as usize].iter_mut() {
         *start = cursor.at;

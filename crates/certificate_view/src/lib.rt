@@ -21,7 +21,7 @@ pub(crate) fn number(bytes: &[u8], at: usize) -> u32
     requires { at + 4 ≤ length bytes.now }
     ensures { result ≡ number_at bytes.now at }
 {
-    number_at(bytes, at).unwrap_or(0)
+    number_at(bytes, at).unwrap()
 }
 
 impl<'a> View<'a> {

@@ -27,7 +27,7 @@ pub fn is_truth(a: i32) -> bool
 fn truth_of(b: bool) -> i32
     ensures { result ≡ truth b }
 {
-    i32::from(u8::from(b))
+    i32::from(b)
 }
 
 fn is_small(a: i32) -> bool

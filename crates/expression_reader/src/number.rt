@@ -4,7 +4,7 @@ ghost use Rattle.expression_grammar.specs.Kinds.{decimal};
 ghost use Rattle.expression_reader.specs.Numbers.{up_to_255};
 
 /// The largest number of the language.
-pub const MAX_NUMBER: u32 = 255;
+pub const MAX_NUMBER: u32 = u8::MAX as u32;
 
 /// The value of digits, if it is at most 255.
 pub fn byte_value(digits: &[u8]) -> Option<u8>

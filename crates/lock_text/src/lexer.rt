@@ -17,6 +17,7 @@ const MAX_NAME: usize = 16;
 /// The most digits of a number.
 const MAX_DIGITS: usize = 5;
 
+// Kept as an enum: the definitions name the three runs.
 /// Bytes that stand together.
 #[derive(Clone, Copy)]
 pub(crate) enum Run {

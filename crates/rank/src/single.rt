@@ -28,6 +28,7 @@ impl Rank for Single {
         Some(Single(number_at(bytes, at)?))
     }
 
+    // Kept in both types: the two tests are members of the interface of ranks, and its definitions are over lists of numbers.
     fn is_below(&self, other: &Single) -> bool {
         self < other
     }

@@ -77,7 +77,7 @@ impl<'a, S: System> Part<'a, S> {
     }
 
     /// The state at the end of the steps, the first of which has the index `first`.
-    pub fn walk(&self, first: usize) -> Result<u32, RunRefusal>
+    pub(crate) fn walk(&self, first: usize) -> Result<u32, RunRefusal>
         requires { first + length self.now.steps.now < 2 ^ 64 }
         ensures { result ≡ walked (S.meaning self.now.system.now).steps self.now.from first self.now.steps.now }
     {
@@ -92,7 +92,7 @@ impl<'a, S: System> Part<'a, S> {
     }
 
     /// The least state before a step where the process does not wait.
-    pub fn idle_at(&self, process: u8) -> Option<u32>
+    pub(crate) fn idle_at(&self, process: u8) -> Option<u32>
         ensures { result ≡ least_idle (S.meaning self.now.system.now).steps process None self.now.from self.now.steps.now }
     {
         self.visits()
@@ -114,7 +114,7 @@ impl<'a, S: System> Part<'a, S> {
     }
 
     /// The least class that is enabled at each state before a step and taken by no step.
-    pub fn neglected_class(&self) -> Option<u8>
+    pub(crate) fn neglected_class(&self) -> Option<u8>
         ensures { result ≡ least (λ j. neglected (S.meaning self.now.system.now) j self.now.from self.now.steps.now) 0 (S.meaning self.now.system.now).classes }
     {
         self.neglected_classes().lowest_below(self.system.classes())

@@ -8,6 +8,7 @@ use run_refusal::RunRefusal;
 use run_rules::Kind;
 use system::System;
 
+// Kept as a byte: steps stay in the bytes that they were read from.
 /// The byte of the rest step.
 pub(crate) const REST: u8 = 255;
 
@@ -46,6 +47,7 @@ fn no_step(steps: &[u8], commands: u8) -> Option<usize>
     steps.iter().position(|byte| !is_step(*byte, commands))
 }
 
+// Kept beside the cursor of `certificate_read`: its refusals are of another type, and it needs no limits.
 /// The bytes of a run, read up to the index `at`.
 #[derive(Drop)]
 struct Cursor<'a> {

@@ -14,13 +14,12 @@ mod tests {
 
     // What the checker answers.
     fn answer<S: System>(system: &S, bytes: &[u8]) -> Answer {
-        match check_run(system, bytes) {
-            Ok(()) => (0, 0, 0, 0),
-            Err(refusal) => {
+        check_run(system, bytes)
+            .err()
+            .map_or((0, 0, 0, 0), |refusal| {
                 let place = refusal.place();
                 (refusal.number(), place.process, place.index, place.command)
-            }
-        }
+            })
     }
 
     // Whether the checker answers what is wanted.

@@ -20,6 +20,7 @@ fn bit_of(mask: u64, command: u8) -> u64
     (mask >> command) & 1
 }
 
+// Kept beside the test of a class in a set: a mask of commands has 64 bits, and is a number to those who lay it over a system.
 // Whether the bit of the command is set. From 64 upward there is none.
 fn is_set(mask: u64, command: u8) -> bool
     ensures { result ≡ bit mask command }

@@ -21,7 +21,7 @@ impl Shape {
           | Some h ↦ (h.processes ≡ processes) × (h.classes ≡ classes) × (h.commands ≡ commands) × (h.states ≡ states) × (h.start ≡ start)
         ] }
     {
-        if processes < 1 || processes > 8 || classes > 16 || commands > 64 {
+        if !(1..=8).contains(&processes) || classes > 16 || commands > 64 {
             return None;
         }
         if states > 65536 || start >= states {
