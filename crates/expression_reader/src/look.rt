@@ -1,7 +1,7 @@
 //! The next token, as an expression sees it.
 ghost use Rattle.std.specs.Prelude.{◌≡◌, ◌≤◌, length};
 ghost use Rattle.lock_text.specs.Tokens.{content, max_text};
-ghost use Rattle.expression_grammar.specs.Kinds.{kind, kind_of_word, kind_of_mark};
+ghost use Rattle.expression_grammar.specs.Kinds.{kind};
 ghost use Rattle.expression_reader.specs.Ahead.{scope_of, Looked};
 ghost use Rattle.expression_reader.specs.State.{JoinsAt};
 
@@ -10,37 +10,7 @@ use super::number::byte_value;
 use super::source::Source;
 use expression::Operator;
 use expression_grammar::Kind;
-use lock_text::{Mark, Placed, Token, Word, next_token};
-
-/// What a reserved word is to an expression.
-// Kept as functions, this one and the next: `From` is written where one of the two types is declared.
-fn word_kind(word: Word) -> Kind
-    ensures { result ≡ kind_of_word word }
-{
-    match word {
-        Word::And => Kind::Operator(Operator::And),
-        Word::Or => Kind::Operator(Operator::Or),
-        Word::Not => Kind::Not,
-        _ => Kind::Other,
-    }
-}
-
-/// What a mark is to an expression.
-fn mark_kind(mark: Mark) -> Kind
-    ensures { result ≡ kind_of_mark mark }
-{
-    match mark {
-        Mark::Open => Kind::Open,
-        Mark::Close => Kind::Close,
-        Mark::Plus => Kind::Operator(Operator::Plus),
-        Mark::Minus => Kind::Operator(Operator::Minus),
-        Mark::Equal => Kind::Operator(Operator::Equal),
-        Mark::NotEqual => Kind::Operator(Operator::NotEqual),
-        Mark::Less => Kind::Operator(Operator::Less),
-        Mark::LessEqual => Kind::Operator(Operator::LessEqual),
-        _ => Kind::Other,
-    }
-}
+use lock_text::{Placed, Token, next_token};
 
 impl Source<'_> {
     /// What a token is to an expression.
@@ -50,8 +20,8 @@ impl Source<'_> {
         match token {
             Token::Name(name) => self.names.find(name).map_or(Kind::Unknown, Kind::Variable),
             Token::Number(digits) => byte_value(digits).map_or(Kind::Large, Kind::Number),
-            Token::Word(word) => word_kind(word),
-            Token::Mark(mark) => mark_kind(mark),
+            Token::Word(word) => Kind::from(word),
+            Token::Mark(mark) => Kind::from(mark),
         }
     }
 

@@ -51,7 +51,7 @@ impl Reader {
         ensures { ReadsBy factor source.entry left self.old result self.new }
     {
         let seen = source.look(self.at);
-        if let Kind::Not = seen.token {
+        if seen.token == Kind::Not {
             if left == 0 {
                 return Err(TextRefusal::PastLimit(seen.start));
             }

@@ -69,7 +69,7 @@ impl Reader {
         ensures { Closes (scope_of source.entry.names.now) source.entry.text.now self.old result self.new }
     {
         let seen = source.look(self.at);
-        if !matches!(seen.token, Kind::Close) {
+        if seen.token != Kind::Close {
             return Err(unwanted(seen));
         }
         self.pass(seen);

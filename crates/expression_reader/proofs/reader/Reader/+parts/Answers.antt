@@ -1,4 +1,4 @@
-use Rattle.std.proofs.Common.{refl}
+use Rattle.std.proofs.Common.{refl, rules}
 use Rattle.expression.specs.Tree.{number, variable}
 use Rattle.expression.specs.declared.Item.TheVariants as Items
 use Rattle.expression_grammar.specs.declared.kind.Kind.TheVariants.{Number, Variable}
@@ -21,31 +21,31 @@ pub parts-returns : goal.parts-returns
 parts-returns t c = going_done _ _ _ _ c.args.self.now c.part.new.self c.loop-sign.self c.in_ok-part.ensures c.loop-sign.invariant c.in_default.ensures
 
 pub factor-returns-then-left-eq0 : goal.factor-returns-then-left-eq0
-factor-returns-then-left-eq0 t c = not_shut _ _ c.args.self.now _ _ c.look-seen.ensures c.in-Not.is c.if-left-eq0.true
+factor-returns-then-left-eq0 t c = not_shut _ _ c.args.self.now _ _ c.look-seen.ensures (search rules) c.if-left-eq0.true
 
 pub factor-returns-in_err-count : goal.factor-returns-in_err-count
-factor-returns-in_err-count t c = exit _ _ _ _ _ _ c.from_residual.ensures.1 (not_full _ _ c.args.self.now _ _ c.look-seen.ensures c.in-Not.is c.if-left-eq0.false _ c.in_err-count.ensures)
+factor-returns-in_err-count t c = exit _ _ _ _ _ _ c.from_residual.ensures.1 (not_full _ _ c.args.self.now _ _ c.look-seen.ensures (search rules) c.if-left-eq0.false _ c.in_err-count.ensures)
 
 pub factor-returns-in_err-factor : goal.factor-returns-in_err-factor
-factor-returns-in_err-factor t c = exit _ _ _ _ _ _ c.from_residual-in_err-factor.ensures.1 (not_refused _ _ c.args.self.now _ _ c.look-seen.ensures c.in-Not.is c.if-left-eq0.false c.count.new.self _ c.in_ok-count.ensures c.in_err-factor.ensures)
+factor-returns-in_err-factor t c = exit _ _ _ _ _ _ c.from_residual-in_err-factor.ensures.1 (not_refused _ _ c.args.self.now _ _ c.look-seen.ensures (search rules) c.if-left-eq0.false c.count.new.self _ c.in_ok-count.ensures c.in_err-factor.ensures)
 
-pub factor-returns-in-Not : goal.factor-returns-in-Not
-factor-returns-in-Not t c = not_took _ _ c.args.self.now _ _ c.look-seen.ensures c.in-Not.is c.if-left-eq0.false c.count.new.self c.factor.new.self _ c.in_ok-count.ensures c.in_ok-factor.ensures c.push.ensures
+pub factor-returns-then-eq : goal.factor-returns-then-eq
+factor-returns-then-eq t c = not_took _ _ c.args.self.now _ _ c.look-seen.ensures (search rules) c.if-left-eq0.false c.count.new.self c.factor.new.self _ c.in_ok-count.ensures c.in_ok-factor.ensures c.push.ensures
 
 pub factor-returns-in_err-part : goal.factor-returns-in_err-part
-factor-returns-in_err-part t c = exit _ _ _ _ _ _ c.from_residual-in_err-part.ensures.1 (plain_refused _ _ c.args.self.now _ _ c.look-seen.ensures c.in_default.not-Not _ c.in_err-part.ensures)
+factor-returns-in_err-part t c = exit _ _ _ _ _ _ c.from_residual-in_err-part.ensures.1 (plain_refused _ _ c.args.self.now _ _ c.look-seen.ensures (search rules) _ c.in_err-part.ensures)
 
 pub factor-returns-in_err-count-2 : goal.factor-returns-in_err-count-2
-factor-returns-in_err-count-2 t c = exit _ _ _ _ _ _ c.from_residual-in_err-count-2.ensures.1 (test_full _ _ c.args.self.now _ _ c.look-seen.ensures c.in_default.not-Not _ c.in_ok-part.ensures _ c.in-Some.ensures.0 _ c.in-Some.ensures.1 _ c.in_err-count-2.ensures)
+factor-returns-in_err-count-2 t c = exit _ _ _ _ _ _ c.from_residual-in_err-count-2.ensures.1 (test_full _ _ c.args.self.now _ _ c.look-seen.ensures (search rules) _ c.in_ok-part.ensures _ c.in-Some.ensures.0 _ c.in-Some.ensures.1 _ c.in_err-count-2.ensures)
 
 pub factor-returns-in_err-part-2 : goal.factor-returns-in_err-part-2
-factor-returns-in_err-part-2 t c = exit _ _ _ _ _ _ c.from_residual-in_err-part-2.ensures.1 (test_refused _ _ c.args.self.now _ _ c.look-seen.ensures c.in_default.not-Not _ c.in_ok-part.ensures _ c.in-Some.ensures.0 _ c.in-Some.ensures.1 c.count-in-Some.new.self _ c.in_ok-count-2.ensures c.in_err-part-2.ensures)
+factor-returns-in_err-part-2 t c = exit _ _ _ _ _ _ c.from_residual-in_err-part-2.ensures.1 (test_refused _ _ c.args.self.now _ _ c.look-seen.ensures (search rules) _ c.in_ok-part.ensures _ c.in-Some.ensures.0 _ c.in-Some.ensures.1 c.count-in-Some.new.self _ c.in_ok-count-2.ensures c.in_err-part-2.ensures)
 
 pub factor-returns-in_ok-part-2 : goal.factor-returns-in_ok-part-2
-factor-returns-in_ok-part-2 t c = test_took _ _ c.args.self.now _ _ c.look-seen.ensures c.in_default.not-Not _ c.in_ok-part.ensures _ c.in-Some.ensures.0 _ c.in-Some.ensures.1 c.count-in-Some.new.self c.part-in-Some.new.self _ c.in_ok-count-2.ensures c.in_ok-part-2.ensures c.push-in-Some.ensures
+factor-returns-in_ok-part-2 t c = test_took _ _ c.args.self.now _ _ c.look-seen.ensures (search rules) _ c.in_ok-part.ensures _ c.in-Some.ensures.0 _ c.in-Some.ensures.1 c.count-in-Some.new.self c.part-in-Some.new.self _ c.in_ok-count-2.ensures c.in_ok-part-2.ensures c.push-in-Some.ensures
 
-pub factor-returns-in_default-operator_ahead : goal.factor-returns-in_default-operator_ahead
-factor-returns-in_default-operator_ahead t c = plain_took _ _ c.args.self.now _ _ c.look-seen.ensures c.in_default.not-Not _ c.in_ok-part.ensures c.in_default-operator_ahead.ensures
+pub factor-returns-in_default : goal.factor-returns-in_default
+factor-returns-in_default t c = plain_took _ _ c.args.self.now _ _ c.look-seen.ensures (search rules) _ c.in_ok-part.ensures c.in_default.ensures
 
 pub atom-returns-in-Number : goal.atom-returns-in-Number
 atom-returns-in-Number t c = operand_reads _ _ c.args.self.now _ _ c.look-seen.ensures (Number c.in-Number.value) (number c.in-Number.value) (Items.Number c.in-Number.value) _ _ c.in-Number.is tt refl refl c.operand.ensures
