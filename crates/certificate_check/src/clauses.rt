@@ -49,7 +49,7 @@ impl<'a, 'b, R: Rank, S: System> Judging<'a, 'b, R, S> {
             return None;
         }
         for command in 0..self.system.commands() {
-            // Kept as a test of its own: a closure that captures `self` gets no contract from its body.
+            // Kept as a test of its own: tried as `is_none_or` with a closure, whose answer the proof did not get.
             if let Some(to) = self.system.successor(state, command) {
                 if !self.view.is_listed(to) {
                     return Some(Spot {
@@ -71,7 +71,7 @@ impl<'a, 'b, R: Rank, S: System> Judging<'a, 'b, R, S> {
     }
 
     // The rows are the listed states where their process waits.
-    // Kept beside `class_failure`, which has another test: a closure that captures `self` gets no contract from its body.
+    // Kept beside `class_failure`, which has another test: the proof does not get what a closure over the view answers.
     pub(crate) fn rows_failure(&self, state: u32, limit: u8) -> Option<Spot>
         ensures { LeastSpot (λ p k. RowsExactAt (S.meaning self.now.system.now) (certificate_of self.now.view) p state) limit result }
     {

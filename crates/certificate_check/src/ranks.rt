@@ -42,7 +42,7 @@ impl<'a, 'b, R: Rank, S: System> Judging<'a, 'b, R, S> {
     {
         for (command, to) in successors.iter().enumerate() {
             let command = command as u8;
-            // Kept as a test of its own: a closure that captures `self` gets no contract from its body.
+            // Kept as a test of its own: tried as `is_some_and` with a closure, and the proof did not close.
             if let Some(to) = *to {
                 if !self.falls(process, row, command, to) {
                     return Some(command);
