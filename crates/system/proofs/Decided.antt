@@ -1,5 +1,5 @@
 -- The computed tests decide what they are about.
-use Rattle.std.proofs.Common.{◌≡◌, ℕ, ◌+◌, ◌<◌, Bool, true, false, ◌||◌, is_some, Some, None, Decides, Option, refl, ap, ◌∙◌, add-one, arith}
+use Rattle.std.proofs.Common.{◌≡◌, ℕ, ◌<◌, Bool, true, is_some, Some, None, Decides, Option, refl, ap, arith}
 use lib.Count.{ones}
 use Rattle.std.proofs.lemmas.Bool.{eqb-true, eq-eqb, leb-true, le-leb}
 use Rattle.std.proofs.lemmas.Bool.Decides.{Decides-at, Decides-and, Decides-below_or}
@@ -37,9 +37,6 @@ class_enabled_told S l s j r e = Decides-at r (class_enabled_lem S s j) e (class
 pub is_clash_decides : (T : Transitions) (s : ℕ) → Decides (is_clash_lem T s) (Clash T s)
 is_clash_decides T s = (leb-true 2 (ones (holder_mask_lem T s)), le-leb 2 (ones (holder_mask_lem T s)))
 
--- A loop that looks for a number that passes a test.
-pub none_more : (f : ℕ → Bool) (k : ℕ) → some_below f k ≡ false → f k ≡ false → some_below f (k + 1) ≡ false
-none_more f k h e = rw add-one (ap (λ b. b || some_below f k) e ∙ h)
-
+-- A number that passes a test is found below each greater one.
 pub some_here : (f : ℕ → Bool) (k n : ℕ) → k < n → f k ≡ true → some_below f n ≡ true
 some_here f k n l e = (Decides-below_or f (λ k. f k ≡ true) (some_below f) (λ k. (λ h. h, λ h. h)) refl (λ _. refl) n).1 (k, l, e)

@@ -1,10 +1,7 @@
-use Rattle.std.proofs.Common.{eqb, sym, ap, ◌∙◌}
+use Rattle.std.proofs.Common.{sym, ◌∙◌}
 use Rattle.std.proofs.lemmas.Bool.{le-ltb}
-use Rattle.system.proofs.Masks.{bit_shifted, bit_beyond}
+use Rattle.system.proofs.Masks.{bit_beyond}
 use Rattle.system.proofs.mask.is_set.Goals as goal
-
-pub returns-then-command-lt64 : goal.returns-then-command-lt64
-returns-then-command-lt64 c = ap (λ b. eqb b 1) c.bit_of.ensures ∙ bit_shifted c.args.mask c.args.command
 
 pub returns-else-command-lt64 : goal.returns-else-command-lt64
 returns-else-command-lt64 c =

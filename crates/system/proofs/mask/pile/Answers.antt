@@ -4,10 +4,7 @@ use Rattle.system.specs.Masks.{masked}
 use Rattle.system.proofs.Masks.{piles_are_unions_lem}
 use Rattle.system.proofs.mask.pile.Goals as goal
 
-pub returns : goal.returns
-returns g c =
+pub returns-clause-union : goal.returns-clause-union
+returns-clause-union g c =
     let (inner, below, above) = c.layers.ensures in
-    record {
-      held = c.layers.ensures;
-      union = piles_are_unions_lem _ _ _ ∙ ap₂ masked (ap₂ bit_or above below) (ap g.S.System.meaning inner);
-    }
+    piles_are_unions_lem _ _ _ ∙ ap₂ masked (ap₂ bit_or above below) (ap g.S.System.meaning inner)

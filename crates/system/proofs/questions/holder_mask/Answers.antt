@@ -1,4 +1,4 @@
-use Rattle.std.proofs.Common.{◌≡◌, ◌+◌, ◌^◌, ◌<◌, sym, refl, ◌∙◌, arith, rules}
+use Rattle.std.proofs.Common.{◌≡◌, ◌+◌, ◌^◌, ◌<◌, refl, ◌∙◌, arith, rules}
 use Rattle.system.proofs.Holders.{or_place, doubled, holders_more, holder_bit_one, holder_bit_zero}
 use Rattle.system.proofs.questions.holder_mask.Goals as goal
 use Rattle.system.proofs.questions.holder_mask.Goals.{then-holds, else-holds}
