@@ -41,3 +41,8 @@ module _ (variables : List Name) (before : List Assignment) (good : SoundList (l
   none_left_is k s =
       let a = alike s.rest in
       ap (λ v. by_verdict v s) a.1 ∙ sym (ap (λ v. then (by_verdict v s) k) a.2)
+
+  -- so the count may be left out
+  pub assigning_is : (n : ℕ) (s : Position) → assigning variables zero before s ≡ next (one (unassigned variables before)) (assigned_to variables (assigning variables n) before) s
+  unfolding assigning
+  assigning_is n s = none_left_is (assigned_to variables (assigning variables n) before) s

@@ -1,11 +1,11 @@
 -- The names that a lock text declares. Assumes nothing.
-use Rattle.std.specs.Prelude.{ℕ, ◌+◌, cond, List, [], ◌∷◌, map, Some, None, Option}
+use Rattle.std.specs.Prelude.{ℕ, ◌+◌, cond, List, [], ◌∷◌, map, take, Some, None, Option}
 use Rattle.std.specs.Str.{bytes_eq}
 use Rattle.names.specs.declared.list.NameList.{NameList}
 
 -- The names of a list, in the order of their declaration.
 abbrev pub listed : NameList → List (List ℕ)
-listed t = map (λ p. p.now) t.names.items
+listed t = map (λ p. p.now) (take t.count t.names)
 
 abbrev pub one_further : Option ℕ → Option ℕ
 one_further (Some i) = Some (i + 1)

@@ -3,8 +3,7 @@ ghost use Rattle.std.specs.Prelude.{◌≡◌, ◌<◌, ◌↔◌, [], ◌∷◌
 ghost use Rattle.names.specs.Limits.{max_names};
 ghost use Rattle.names.specs.Listed.{listed, index_of};
 
-use super::list::NameList;
-use arrayvec::ArrayVec;
+use super::list::{MAX_NAMES, NameList};
 
 /// A list has 16 names already.
 #[derive(Clone, Copy, Debug, PartialEq, Eq)]
@@ -15,16 +14,25 @@ impl<'a> NameList<'a> {
     pub fn new() -> NameList<'a>
         ensures { listed result ≡ [] }
     {
+        let none: &[u8] = b"";
         NameList {
-            names: ArrayVec::new(),
+            names: [none; MAX_NAMES],
+            count: 0,
         }
+    }
+
+    /// How many names are declared.
+    fn len(&self) -> usize
+        ensures { result ≡ length (listed self.now) }
+    {
+        self.count
     }
 
     /// The number of the name, if it is declared: the first has 0.
     pub fn find(&self, name: &[u8]) -> Option<u8>
         ensures { result ≡ index_of (listed self.now) name.now }
     {
-        let names = self.names.as_slice();
+        let names = &self.names[..self.count];
         let place = names.iter().position(|&known| known == name)?;
         Some(place as u8)
     }
@@ -35,6 +43,11 @@ impl<'a> NameList<'a> {
         ensures full { OnErr result (listed self.new ≡ listed self.old) }
         ensures added { OnOk result (listed self.new ≡ listed self.old ++ (name.now ∷ [])) }
     {
-        self.names.try_push(name).map_err(|_| Full)
+        if self.len() >= MAX_NAMES {
+            return Err(Full);
+        }
+        self.names[self.count] = name;
+        self.count += 1;
+        Ok(())
     }
 }
